@@ -1,0 +1,11 @@
+pub mod Pairs
+pub mod Expr
+pub mod Ring
+pub mod Orders
+pub mod Members
+pub mod Fractions
+pub mod Identities
+pub mod Vectors
+pub mod Points
+pub mod Ratio
+pub mod Wide

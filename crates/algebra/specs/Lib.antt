@@ -1,0 +1,5 @@
+pub mod Members
+pub mod Space
+pub mod Fractions
+pub mod Ratio
+pub mod Laws

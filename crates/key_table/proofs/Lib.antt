@@ -1,0 +1,4 @@
+pub mod Order
+pub mod Padded
+pub mod Search
+pub mod Twins

@@ -1,0 +1,4 @@
+pub mod InMemory
+pub mod Moved
+pub mod Streams
+pub mod Texts
