@@ -23,7 +23,7 @@ RatioTest = (F : List HalfSpace) (p : Homogeneous) (m : Vector) → Every (λ f.
 abbrev pub SideOfMix : Type 0
 SideOfMix = (s : ℤ) (p : Homogeneous) (t : ℤ) (q : Homogeneous) (f : HalfSpace) → side f (mix s p t q) ≡ s *ℤ side f p +ℤ t *ℤ side f q
 
--- The common point of three planes is on each of them, and each point on the three is that one.
+-- A point is on each of three planes, and it is the only one where its weight isn't 0, that is where the normals are independent.
 pub record IsCommonPoint (f g h : HalfSpace) (c : Homogeneous) : Type 0 where
   pub on_f : side f c ≡ pos 0
   pub on_g : side g c ≡ pos 0

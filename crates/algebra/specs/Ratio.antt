@@ -3,7 +3,7 @@ use Rattle.std.specs.Prelude.{◌≡◌, List, ℤ, pos, ◌*ℤ◌, ◌<ℤ◌,
 use Rattle.algebra.specs.Members.{◌∈◌}
 use Rattle.algebra.specs.Space.{Vector, Homogeneous, HalfSpace, dot, side, go}
 
--- The point p, moved along m by t / q, is on the plane of a half-space that lay ahead, and still in each half-space.
+-- The point p, moved along m by t / (q * the weight of p), is on the plane of a half-space that lay ahead, and still in each half-space.
 pub record Hit (F : List HalfSpace) (p : Homogeneous) (m : Vector) : Type 0 where
   pub face : HalfSpace
   pub t : ℤ

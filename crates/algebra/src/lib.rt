@@ -28,7 +28,7 @@ pub fn side_of_mix_law()
     ensures { SideOfMix }
 {}
 
-/// Cramer's rule gives the one point that three planes share.
+/// Cramer's rule gives a point that three planes share, the only one where their normals are independent.
 pub fn common_point_law()
     ensures { CommonPoint }
 {}

@@ -116,6 +116,7 @@ impl Vault for MemVault {
         } }
         ensures planned { fails_at self.old.fails (after self.old.calls) ≡ true
             → result ≡ Err FetchEnd.Failed }
+        ensures missing { text_named self.old.texts name.now ≡ None → result ≡ Err FetchEnd.Failed }
     {
         if self.calls.next_fails() {
             self.fetch_faults = raised(self.fetch_faults);

@@ -1,6 +1,6 @@
 //! A vault that never fails, whatever memory there is.
 
-ghost use Rattle.std.specs.Prelude.{◌≡◌, ◌⊎◌, ◌<◌, ◌≤◌, [], length, Some, None, true, false, IsOk, OnOk, IfSome, IsSomeAnd, unwrap_or, vec_len};
+ghost use Rattle.std.specs.Prelude.{◌≡◌, ◌↔◌, is_ok, IsTrue, ◌⊎◌, ◌<◌, ◌≤◌, [], length, Some, None, true, false, IsOk, OnOk, IfSome, IsSomeAnd, unwrap_or, vec_len};
 ghost use Rattle.outside_io.specs.InMemory.{SureState, told_texts};
 ghost use Rattle.outside_io.specs.Texts.{text_named, OnFailed, OnTooLong, texts_of};
 
@@ -56,6 +56,8 @@ impl Vault for SureVault {
             (λ texts. text_named texts name.now ≡ None)) }
         ensures value { OnOk result
             (out.new.items ≡ unwrap_or (text_named self.old.texts name.now) []) }
+        ensures missing { text_named self.old.texts name.now ≡ None
+            → IsTrue (is_ok result) ↔ (self.old.untouched ≡ false) }
         ensures stands { self.new ≡ self.old }
     {
         match find(self.texts.as_slice(), name) {

@@ -1,0 +1,14 @@
+pub mod Words
+pub mod Devices
+pub mod Numbers
+pub mod Serving
+pub mod Opening
+pub mod Keeping
+pub mod Says
+pub mod Completeness
+pub use Rattle.outside_io.specs.Moved
+pub use Rattle.outside_io.specs.Texts
+pub use Rattle.line_machine.specs.Lines
+pub use Rattle.line_machine.specs.Machine
+pub use Rattle.line_machine.specs.Served
+pub use Rattle.line_machine.specs.Pieces

@@ -1,0 +1,5 @@
+pub mod Machine
+pub mod Planes
+pub mod Rounding
+pub mod Sides
+pub mod Vertices

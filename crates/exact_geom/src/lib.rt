@@ -1,0 +1,28 @@
+//! Planes by three whole points, the vertices where three planes meet, and on which side of a plane a vertex lies.
+//! Every answer is exact: no number is rounded but by `round`, and no product or sum leaves its type.
+//! No call takes memory.
+#![tactic(auto)]
+
+mod axis;
+mod crossing;
+mod divisor;
+mod half_space;
+mod plane;
+mod point;
+mod rounding;
+mod rows;
+mod sides;
+mod sign;
+mod steps;
+mod vertex;
+
+pub use axis::Axis;
+pub use divisor::gcd;
+pub use plane::{Plane, PlaneFault};
+pub use point::Point;
+pub use rounding::{in_world, round, whole};
+pub use rows::Rows;
+pub use sides::{same_halfspace, side};
+pub use sign::{Sign, det_sign};
+pub use steps::Steps;
+pub use vertex::HVertex;

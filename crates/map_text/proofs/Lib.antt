@@ -1,0 +1,11 @@
+pub mod OptionLemmas
+pub mod PieceLemmas
+pub mod NumberLemmas
+pub mod FaceLemmas
+pub mod BoxLemmas
+pub mod BrushLemmas
+pub mod MapLemmas
+pub mod PlainLemmas
+pub mod WriteLemmas
+pub mod RoundLemmas
+pub mod SavedLemmas

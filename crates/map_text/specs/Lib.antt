@@ -1,0 +1,6 @@
+pub mod Lines
+pub mod Numbers
+pub mod FaceLine
+pub mod Boxes
+pub mod PlainForm
+pub mod SavedText

@@ -1,0 +1,23 @@
+//! Worked examples: what the crates of this repository answer on cases whose answers were worked out apart from them.
+#![tactic(auto)]
+
+#[cfg(test)]
+mod devices;
+#[cfg(test)]
+mod first_path;
+#[cfg(test)]
+mod grids;
+#[cfg(test)]
+mod numbers;
+#[cfg(test)]
+mod plain_form;
+#[cfg(test)]
+mod planes;
+#[cfg(test)]
+mod slots;
+#[cfg(test)]
+mod tokens;
+#[cfg(test)]
+mod vertices;
+#[cfg(test)]
+mod word_tables;
