@@ -2,7 +2,11 @@
 #![tactic(auto)]
 
 #[cfg(test)]
+mod base_axes;
+#[cfg(test)]
 mod devices;
+#[cfg(test)]
+mod faces;
 #[cfg(test)]
 mod first_path;
 #[cfg(test)]

@@ -1,0 +1,68 @@
+-- The lists that are brushes, and why another list is refused. Lengths are map units.
+use Rattle.std.specs.Prelude.{ℕ, ◌≤◌, ◌<◌, ◌≡◌, List, length, ℤ, pos, neg_ℤ, ◌*ℤ◌, ◌≤ℤ◌}
+use Rattle.algebra.specs.Space.{Homogeneous, HalfSpace}
+use Rattle.trim_laws.specs.Solid.{IsIn, IsInside}
+use Rattle.trim_laws.specs.Trim.{Trim}
+
+-- Each coordinate of the point is from -c to c.
+pub record InCube (c : ℤ) (p : Homogeneous) : Type 0 where
+  pub left : neg_ℤ (c *ℤ p.weight) ≤ℤ p.vector.x
+  pub right : p.vector.x ≤ℤ (c *ℤ p.weight)
+  pub near : neg_ℤ (c *ℤ p.weight) ≤ℤ p.vector.y
+  pub far : p.vector.y ≤ℤ (c *ℤ p.weight)
+  pub bottom : neg_ℤ (c *ℤ p.weight) ≤ℤ p.vector.z
+  pub top : p.vector.z ≤ℤ (c *ℤ p.weight)
+
+-- Brushes lie in the cube from -4096 to 4096.
+abbrev pub world : ℤ
+world = pos 4096
+
+-- The points that faces are given by lie in the cube from -4352 to 4352.
+abbrev pub reach : ℤ
+reach = pos 4352
+
+-- Some point is inside the solid.
+pub record HasInside (F : List HalfSpace) : Type 0 where
+  pub at : Homogeneous
+  pub inside : IsInside F at
+
+-- Some point of the solid lies outside the cube from -c to c.
+pub record LeavesCube (F : List HalfSpace) (c : ℤ) : Type 0 where
+  pub at : Homogeneous
+  pub is_in : IsIn F at
+  pub outside : ¬ (InCube c at)
+
+-- A valid brush: a trimmed list of 4 to 128 faces, with some point inside and no point outside the world.
+pub record Valid (F : List HalfSpace) : Type 0 where
+  pub trimmed : Trim F F
+  pub least : 4 ≤ length F
+  pub most : length F ≤ 128
+  pub volume : HasInside F
+  pub within : (p : Homogeneous) → IsIn F p → InCube world p
+
+-- No point of the larger cube is inside.
+abbrev pub NoVolume : List HalfSpace → Type 0
+NoVolume F = (p : Homogeneous) → InCube reach p → ¬ (IsInside F p)
+
+-- Some point of the solid lies outside the world.
+abbrev pub OutOfWorld : List HalfSpace → Type 0
+OutOfWorld F = LeavesCube F world
+
+-- The trimmed list has n faces, and n is above 128.
+pub record TooManyFaces (F : List HalfSpace) (n : ℕ) : Type 0 where
+  pub kept : List HalfSpace
+  pub trim : Trim F kept
+  pub count : length kept ≡ n
+  pub above : 128 < n
+
+-- The causes for which a list is refused; the last one with the count of faces that trimming keeps.
+pub data Cause : Type 0 where
+  no_volume : Cause
+  out_of_world : Cause
+  too_many_faces : ℕ → Cause
+
+-- Why a list is refused: the first of the three causes that holds.
+pub data HasCause (F : List HalfSpace) : Cause → Type 0 where
+  is_no_volume : NoVolume F → HasCause F no_volume
+  is_out_of_world : ¬ (NoVolume F) → OutOfWorld F → HasCause F out_of_world
+  is_too_many : {n : ℕ} → ¬ (NoVolume F) → ¬ (OutOfWorld F) → TooManyFaces F n → HasCause F (too_many_faces n)

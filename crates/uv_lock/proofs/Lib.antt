@@ -1,0 +1,2 @@
+pub mod FirstGreatest
+pub mod Directions

@@ -1,0 +1,14 @@
+pub mod Corner
+pub mod Criterion
+pub mod Choice
+pub mod Cube
+pub mod Box
+pub mod Line
+pub mod Tight
+pub mod Run
+pub mod TrimVertex
+pub mod HalfEdge
+pub mod TwoFaces
+pub mod OneLoop
+pub mod Loop
+pub mod CubeValid

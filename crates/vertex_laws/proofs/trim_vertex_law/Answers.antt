@@ -1,0 +1,5 @@
+use Rattle.vertex_laws.proofs.TrimVertex.{trim_vertex}
+use Rattle.vertex_laws.proofs.trim_vertex_law.Goals as goal
+
+pub returns : goal.returns
+returns c = trim_vertex

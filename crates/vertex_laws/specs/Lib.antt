@@ -1,0 +1,5 @@
+pub mod Vertex
+pub mod Cube
+pub mod HalfEdge
+pub mod Loop
+pub mod Laws
