@@ -1,0 +1,5 @@
+pub mod Members
+pub mod Ready
+pub mod EdgeSigns
+pub mod Chain
+pub mod WalkLaws

@@ -1,0 +1,3 @@
+pub mod Polyhedron
+pub mod Sides
+pub mod Walls

@@ -1,0 +1,15 @@
+pub mod Divisor
+pub mod Reduced
+pub mod Holds
+pub mod World
+pub mod BoxVertices
+pub mod Exactly
+pub mod FourFaces
+pub mod NoCause
+pub mod Least
+pub mod Triples
+pub mod Name
+pub mod OneList
+pub mod Numbered
+pub mod Round
+pub mod OneLoop

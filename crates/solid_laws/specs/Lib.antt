@@ -1,0 +1,3 @@
+pub mod Names
+pub mod FaceLoop
+pub mod Laws
