@@ -1,9 +1,9 @@
 -- What the vertices tell of a bounded solid.
-use Rattle.std.proofs.Common.{◌≡◌, ◌↔◌, ◌⊎◌, inl, inr, ⊎_elim, ◌<◌, ◌≤◌, List, length, map, sym, subst, All, pos, ◌<ℤ◌, ◌≤ℤ◌}
+use Rattle.std.proofs.Common.{◌≡◌, ◌⊎◌, inl, inr, ⊎_elim, ◌<◌, ◌≤◌, List, length, map, sym, subst, All, pos, ◌<ℤ◌, ◌≤ℤ◌}
 use Rattle.std.specs.List.{Any}
 use Rattle.algebra.specs.Members.{◌∈◌}
 use Rattle.algebra.specs.Space.{Homogeneous, HalfSpace, side}
-use Rattle.algebra.proofs.Points.{same_point_sym, same-on, same-behind}
+use Rattle.algebra.proofs.Points.{same-on, same-behind}
 use Rattle.exact_geom.specs.Planes.{ThreePoints, half_space, IsPlane}
 use Rattle.exact_geom.specs.Sides.{SameHalfSpace}
 use Rattle.exact_geom.proofs.PlaneLaws.{normal_positive}
@@ -11,15 +11,15 @@ use Rattle.trim_laws.specs.SameHalfSpace as trim
 use Rattle.trim_laws.specs.Solid.{IsIn, Bounded, Proper}
 use Rattle.trim_laws.specs.Trim.{Bears}
 use Rattle.trim_laws.specs.Valid.{HasInside}
-use Rattle.vertex_laws.specs.Vertex.{IsVertex, VertexBehind, VertexOnBehind}
-use Rattle.solid_laws.specs.Laws.{HasCorners, HasVertexBehindEach}
+use Rattle.vertex_laws.specs.Vertex.{VertexBehind, VertexOnBehind}
 use Rattle.solid_laws.specs.Names.{HoldsVertices}
 use Rattle.vertex_search.specs.Corners.{SomeBehind, IsOnBehind, IsBeside}
 use Rattle.vertex_search.proofs.Lists.{every_map, member_map, every_of_all, every_mapped, all_unmapped, member_of_any, any_of_member, some_member, no_member}
 use Rattle.solid_laws.proofs.Exactly.{bears_exactly, inside_exactly}
 
 -- ---- the solid
-pub is_in_of_all : (P : List ThreePoints) (v : Homogeneous) → pos 0 <ℤ v.weight → All (λ plane. side (half_space plane) v ≤ℤ pos 0) P → IsIn (map half_space P) v
+pub is_in_of_all : (P : List ThreePoints) (v : Homogeneous) → pos 0 <ℤ v.weight →
+    All (λ plane. side (half_space plane) v ≤ℤ pos 0) P → IsIn (map half_space P) v
 is_in_of_all P v w all = record { weight = w; all = every_mapped half_space (λ f. side f v ≤ℤ pos 0) P all }
 
 pub all_of_is_in : (P : List ThreePoints) (v : Homogeneous) → IsIn (map half_space P) v → All (λ plane. side (half_space plane) v ≤ℤ pos 0) P
@@ -65,12 +65,14 @@ onto_trim s = record { onto = s.onto; back = s.back }
 pub of_trim : {f g : HalfSpace} → trim.SameHalfSpace f g → SameHalfSpace f g
 of_trim s = record { onto = s.onto; back = s.back }
 
-on_behind_vertex : (F : List HalfSpace) (V : List Homogeneous) (f g : HalfSpace) → HoldsVertices F V → IsBeside V f g → trim.SameHalfSpace f g ⊎ VertexOnBehind F f g
+on_behind_vertex : (F : List HalfSpace) (V : List Homogeneous) (f g : HalfSpace) → HoldsVertices F V → IsBeside V f g →
+    trim.SameHalfSpace f g ⊎ VertexOnBehind F f g
 unfolding IsBeside IsOnBehind
 on_behind_vertex F V f g h beside = ⊎_elim (λ s. inl (onto_trim s))
     (λ any. let m = member_of_any _ V any in inr (record { at = m.it; vertex = h.each m.it m.among; on = m.has.0; behind = m.has.1 })) beside
 
-on_behind_listed : (F : List HalfSpace) (V : List Homogeneous) (f g : HalfSpace) → HoldsVertices F V → trim.SameHalfSpace f g ⊎ VertexOnBehind F f g → IsBeside V f g
+on_behind_listed : (F : List HalfSpace) (V : List Homogeneous) (f g : HalfSpace) → HoldsVertices F V →
+    trim.SameHalfSpace f g ⊎ VertexOnBehind F f g → IsBeside V f g
 unfolding IsBeside IsOnBehind
 on_behind_listed F V f g h either = ⊎_elim (λ s. inl (of_trim s))
     (λ b. let a = h.all b.at b.vertex in inr (any_of_member _ V a.s a.among (
@@ -80,12 +82,13 @@ on_behind_listed F V f g h either = ⊎_elim (λ s. inl (of_trim s))
 
 -- what the tests of the vertices tell of the face t, which is read as s
 pub record BearsWhen (P : List ThreePoints) (V : List Homogeneous) (s : ThreePoints) : Type 0 where
-  pub ahead : {t : ThreePoints} → s ≡ t → Any (λ v. side (half_space s) v ≡ pos 0) V → All (λ plane. IsBeside V (half_space s) (half_space plane)) P → Bears (map half_space P) (half_space t)
+  pub ahead : {t : ThreePoints} → s ≡ t → Any (λ v. side (half_space s) v ≡ pos 0) V →
+      All (λ plane. IsBeside V (half_space s) (half_space plane)) P → Bears (map half_space P) (half_space t)
   pub on : {t : ThreePoints} → s ≡ t → Bears (map half_space P) (half_space t) → Any (λ v. side (half_space s) v ≡ pos 0) V
   pub beside : {t : ThreePoints} → s ≡ t → Bears (map half_space P) (half_space t) → All (λ plane. IsBeside V (half_space s) (half_space plane)) P
 
-pub bears_when : (P : List ThreePoints) (V : List Homogeneous) (s : ThreePoints) → All IsPlane P → Bounded (map half_space P) → HoldsVertices (map half_space P) V → s ∈ P →
-    BearsWhen P V s
+pub bears_when : (P : List ThreePoints) (V : List Homogeneous) (s : ThreePoints) → All IsPlane P → Bounded (map half_space P) →
+    HoldsVertices (map half_space P) V → s ∈ P → BearsWhen P V s
 bears_when P V s planes b h m =
     let F = map half_space P in let f = half_space s in
     let law = bears_exactly F f b (proper P planes) (member_map half_space P s m) in

@@ -1,5 +1,5 @@
 -- What holds of each element of a list, and of some, by members and by places.
-use Rattle.std.proofs.Common.{◌≡◌, ◌↔◌, ◌⊎◌, inl, inr, ⊎_elim, Bool, ◌||◌, true, false, IsTrue, MatchBool, ℕ, zero, suc, ◌<◌, ◌≤◌, List, [], ◌∷◌, ◌++◌, length, map, take, get_or, slice_index_or, Option, Some, All, refl, arith, subst, sym, ap, ◌∙◌}
+use Rattle.std.proofs.Common.{◌≡◌, ◌↔◌, ◌⊎◌, inl, inr, ⊎_elim, Bool, ◌||◌, true, false, IsTrue, MatchBool, ℕ, ◌<◌, ◌≤◌, List, [], ◌∷◌, ◌++◌, length, map, take, get_or, Some, All, refl, arith, subst, sym, ap, ◌∙◌}
 use Rattle.std.specs.List.{Any, AllWithin, HoldsAt, list_any, slice_get}
 use Rattle.std.specs.Option.{option_map}
 use Rattle.std.proofs.lemmas.Bool.{false≢true}
@@ -24,7 +24,7 @@ member_map f [] x m = elim m [ ]
 member_map f (y ∷ ys) x here = here
 member_map f (y ∷ ys) x (there m) = there (member_map f ys x m)
 
-pub every_unmap : {A B : Type 0} (f : A → B) (P : B → Type 0) (xs : List A) → Every P (map f xs) → Every (λ x. P (f x)) xs
+every_unmap : {A B : Type 0} (f : A → B) (P : B → Type 0) (xs : List A) → Every P (map f xs) → Every (λ x. P (f x)) xs
 every_unmap f P xs each x m = each (f x) (member_map f xs x m)
 
 pub every_mapped : {A B : Type 0} (f : A → B) (P : B → Type 0) (xs : List A) → All (λ x. P (f x)) xs → Every P (map f xs)
@@ -136,9 +136,11 @@ test_of_member test x [] passes m = elim m [ ]
 test_of_member test x (y ∷ ys) passes here = first_passes (test x) (list_any test ys) passes
 test_of_member test x (y ∷ ys) passes (there m) = later_passes (test y) (list_any test ys) (test_of_member test x ys passes m)
 
-pub contains_member : {A : Type 0} (test : A → Bool) (x : A) (xs : List A) (r : Bool) → ((y : A) → test y ≡ true → y ≡ x) → test x ≡ true → r ≡ list_any test xs → IsTrue r ↔ x ∈ xs
+pub contains_member : {A : Type 0} (test : A → Bool) (x : A) (xs : List A) (r : Bool) →
+    ((y : A) → test y ≡ true → y ≡ x) → test x ≡ true → r ≡ list_any test xs → IsTrue r ↔ x ∈ xs
 contains_member test x xs r same passes e = (λ t. member_of_test test x xs same (sym e ∙ t), λ m. e ∙ test_of_member test x xs passes m)
 
 -- the place of an element's value under a map
-pub place_mapped : {A B : Type 0} (f : A → B) (xs : List A) (k : ℕ) (x : A) → k < length xs → x ≡ get_or xs k x → slice_get (map f xs) k ≡ Some (f x)
+pub place_mapped : {A B : Type 0} (f : A → B) (xs : List A) (k : ℕ) (x : A) → k < length xs → x ≡ get_or xs k x →
+    slice_get (map f xs) k ≡ Some (f x)
 place_mapped f xs k x l e = slice_get-map f xs k ∙ ap (option_map f) (slice_get-get_or xs k x l ∙ ap (λ y. Some y) (sym e))

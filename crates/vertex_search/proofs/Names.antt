@@ -1,11 +1,9 @@
 -- Triples in lexicographic order, and the rising triple of the same faces.
-use Rattle.std.proofs.Common.{◌≡◌, ◌⊎◌, inl, inr, ⊎_elim, ℕ, ◌+◌, ◌*◌, ◌<◌, ◌≤◌, List, length, Some, sym, ap, ◌∙◌, refl, subst, arith, ℤ, pos, neg_ℤ, ◌<ℤ◌}
+use Rattle.std.proofs.Common.{◌≡◌, ◌⊎◌, inl, inr, ⊎_elim, ℕ, ◌<◌, ◌≤◌, List, Some, sym, ap, ◌∙◌, refl, subst, arith, ℤ, pos, neg_ℤ, ◌<ℤ◌}
 use Rattle.std.specs.List.{slice_get}
-use Rattle.std.proofs.lemmas.Int.{ints, by_lt_z}
+use Rattle.std.proofs.lemmas.Int.{ints}
 use Rattle.std.proofs.lemmas.Bool.{cases_lt}
-use Rattle.std.proofs.lemmas.Option.{slice_get_within}
-use Rattle.algebra.specs.Members.{◌∈◌}
-use Rattle.algebra.specs.Space.{Vector, Homogeneous, HalfSpace, SamePoint, det, side}
+use Rattle.algebra.specs.Space.{Homogeneous, HalfSpace, SamePoint, det, side}
 use Rattle.algebra.proofs.Identities.{det-swap_12, det-swap_23, det-equal_12, det-equal_23}
 use Rattle.algebra.proofs.Orders.{by_order}
 use Rattle.algebra.proofs.Points.{same_of_three}
@@ -16,14 +14,14 @@ use Rattle.vertex_search.specs.Found.{triple, IsRising}
 use Rattle.vertex_search.proofs.Lists.{member_of_place, place_of}
 
 -- ---- the order
-pub earlier_trans : (r s t : Triple) → Earlier r s → Earlier s t → Earlier r t
+earlier_trans : (r s t : Triple) → Earlier r s → Earlier s t → Earlier r t
 earlier_trans r s t h k = grind arith
 
 -- ---- three faces that meet, in another order
 negated : {a b : ℤ} → b ≡ neg_ℤ a → ¬ (a ≡ pos 0) → ¬ (b ≡ pos 0)
 negated {a} {b} e n z = n (omega (arith, ints))
 
-pub swap_first : (F : List HalfSpace) (a b c : ℕ) (p : Homogeneous) → MeetAt F (triple a b c) p → MeetAt F (triple b a c) p
+swap_first : (F : List HalfSpace) (a b c : ℕ) (p : Homogeneous) → MeetAt F (triple a b c) p → MeetAt F (triple b a c) p
 swap_first F a b c p m = record {
   f = m.g;
   g = m.f;
@@ -37,7 +35,7 @@ swap_first F a b c p m = record {
   independent = negated (det-swap_12 m.f.normal m.g.normal m.h.normal) m.independent;
 }
 
-pub swap_last : (F : List HalfSpace) (a b c : ℕ) (p : Homogeneous) → MeetAt F (triple a b c) p → MeetAt F (triple a c b) p
+swap_last : (F : List HalfSpace) (a b c : ℕ) (p : Homogeneous) → MeetAt F (triple a b c) p → MeetAt F (triple a c b) p
 swap_last F a b c p m = record {
   f = m.f;
   g = m.h;
@@ -54,11 +52,11 @@ swap_last F a b c p m = record {
 pub same_face : (F : List HalfSpace) (a b : ℕ) (f g : HalfSpace) → slice_get F a ≡ Some f → slice_get F b ≡ Some g → a ≡ b → f ≡ g
 same_face F a b f g d e i = let k : slice_get F a ≡ slice_get F b = ap (λ (n : ℕ). slice_get F n) i in cc
 
-pub first_differs : (F : List HalfSpace) (a b c : ℕ) (p : Homogeneous) → MeetAt F (triple a b c) p → ¬ (a ≡ b)
+first_differs : (F : List HalfSpace) (a b c : ℕ) (p : Homogeneous) → MeetAt F (triple a b c) p → ¬ (a ≡ b)
 first_differs F a b c p m e = let i = same_face F a b m.f m.g m.first m.second e in
     m.independent (ap (λ (f : HalfSpace). det f.normal m.g.normal m.h.normal) i ∙ det-equal_12 m.g.normal m.h.normal)
 
-pub last_differs : (F : List HalfSpace) (a b c : ℕ) (p : Homogeneous) → MeetAt F (triple a b c) p → ¬ (b ≡ c)
+last_differs : (F : List HalfSpace) (a b c : ℕ) (p : Homogeneous) → MeetAt F (triple a b c) p → ¬ (b ≡ c)
 last_differs F a b c p m e = let i = same_face F b c m.g m.h m.second m.third e in
     m.independent (ap (λ (g : HalfSpace). det m.f.normal g.normal m.h.normal) i ∙ det-equal_23 m.f.normal m.h.normal)
 
@@ -72,9 +70,20 @@ pub record Sorted (F : List HalfSpace) (s : Triple) (p : Homogeneous) : Type 0 w
 -- the same for three numbers of which the first two rise, and for any three
 from_pair : (F : List HalfSpace) (a b c : ℕ) (p : Homogeneous) → a < b → MeetAt F (triple a b c) p → Sorted F (triple a b c) p
 from_pair F a b c p l m = ⊎_elim (λ k. record { to = triple a b c; rising = record { low = l; high = k }; meet = m; no_later = λ t e. e })
-    (λ k. ⊎_elim (λ i. record { to = triple a c b; rising = record { low = i; high = last m k }; meet = swap_last F a b c p m; no_later = λ t e. earlier_trans (triple a c b) (triple a b c) t (inr (refl, inl (last m k))) e })
-    (λ i. let w = swap_first F a c b p (swap_last F a b c p m) in let n = first w i in
-    record { to = triple c a b; rising = record { low = n; high = l }; meet = w; no_later = λ t e. earlier_trans (triple c a b) (triple a b c) t (inl n) e }) (cases_lt a c))
+    (λ k. let w = swap_last F a b c p m in let n = last m k in ⊎_elim
+    (λ i. record {
+      to = triple a c b;
+      rising = record { low = i; high = n };
+      meet = w;
+      no_later = λ t e. earlier_trans (triple a c b) (triple a b c) t (inr (refl, inl n)) e;
+    })
+    (λ i. let v = swap_first F a c b p w in let o = first v i in record {
+      to = triple c a b;
+      rising = record { low = o; high = l };
+      meet = v;
+      no_later = λ t e. earlier_trans (triple c a b) (triple a b c) t (inl o) e;
+    })
+    (cases_lt a c))
     (cases_lt b c)
   where
     last : MeetAt F (triple a b c) p → c ≤ b → c < b
@@ -116,8 +125,33 @@ one_point F t p q m n =
 pub vertex_of_meet : (F : List HalfSpace) (t : Triple) (p : Homogeneous) → IsIn F p → MeetAt F t p → IsVertex F p
 vertex_of_meet F t p i m =
     let a = member_of_place F t.first m.f m.first in let b = member_of_place F t.second m.g m.second in let c = member_of_place F t.third m.h m.third in
-    ⊎_elim (λ l. record { inside = i; f = m.f; g = m.g; h = m.h; f_in = a; g_in = b; h_in = c; on_f = m.on_f; on_g = m.on_g; on_h = m.on_h; independent = l })
-    (λ l. record { inside = i; f = m.g; g = m.f; h = m.h; f_in = b; g_in = a; h_in = c; on_f = m.on_g; on_g = m.on_f; on_h = m.on_h; independent = rw det-swap_12 l })
+    ⊎_elim
+    (λ l. record {
+      inside = i;
+      f = m.f;
+      g = m.g;
+      h = m.h;
+      f_in = a;
+      g_in = b;
+      h_in = c;
+      on_f = m.on_f;
+      on_g = m.on_g;
+      on_h = m.on_h;
+      independent = l;
+    })
+    (λ l. record {
+      inside = i;
+      f = m.g;
+      g = m.f;
+      h = m.h;
+      f_in = b;
+      g_in = a;
+      h_in = c;
+      on_f = m.on_g;
+      on_g = m.on_f;
+      on_h = m.on_h;
+      independent = rw det-swap_12 l;
+    })
     (positive_either m.independent)
 
 pub record Met (F : List HalfSpace) (p : Homogeneous) : Type 0 where

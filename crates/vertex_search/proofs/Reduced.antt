@@ -1,5 +1,5 @@
 -- Two reduced points at one place have the same numbers.
-use Rattle.std.proofs.Common.{◌≡◌, Bool, true, false, ◌&&◌, refl, ℕ, ◌*◌, arith, sym, ap, subst, ◌∙◌, ℤ, pos, ◌*ℤ◌, ◌<ℤ◌, unsigned_abs}
+use Rattle.std.proofs.Common.{◌≡◌, Bool, true, false, ◌&&◌, refl, ◌*◌, arith, sym, ap, subst, ◌∙◌, ℤ, pos, ◌*ℤ◌, ◌<ℤ◌, unsigned_abs}
 use Rattle.std.specs.Int.{◌∣◌}
 use Rattle.std.specs.Ordering.{int_eq}
 use Rattle.std.proofs.lemmas.Bool.{false≢true}
@@ -62,8 +62,10 @@ same_numbers p q = int_eq p.vector.x q.vector.x && (int_eq p.vector.y q.vector.y
 pub equal_numbers : (p q : Homogeneous) → same_numbers p q ≡ true → p ≡ q
 equal_numbers p q e =
     let k = all_pass (int_eq p.vector.x q.vector.x) (int_eq p.vector.y q.vector.y) (int_eq p.vector.z q.vector.z) (int_eq p.weight q.weight) e in
-    point_by (vector_by ((Decides-int_eq p.vector.x q.vector.x).0 k.0) ((Decides-int_eq p.vector.y q.vector.y).0 k.1) ((Decides-int_eq p.vector.z q.vector.z).0 k.2))
-    ((Decides-int_eq p.weight q.weight).0 k.3)
+    point_by (vector_by (same p.vector.x q.vector.x k.0) (same p.vector.y q.vector.y k.1) (same p.vector.z q.vector.z k.2)) (same p.weight q.weight k.3)
+  where
+    same : (a b : ℤ) → int_eq a b ≡ true → a ≡ b
+    same a b e = (Decides-int_eq a b).0 e
 
 pub own_numbers : (p : Homogeneous) → same_numbers p p ≡ true
 own_numbers p =

@@ -22,7 +22,8 @@ pub record NamedEarlier (F : List HalfSpace) (t : Triple) (p : Homogeneous) : Ty
   pub named : IsName F p name
   pub earlier : Earlier name t
 
--- V are the vertices that rising triples before t have, each once as a reduced point, in the order of their names, and they are few.
+-- V are the vertices that rising triples before t have, each once as a reduced point, in the order of their names. There is at most
+-- one for each triple before t, of at most 262 faces.
 pub record FoundBefore (F : List HalfSpace) (t : Triple) (V : List Homogeneous) : Type 0 where
   pub each : (v : Homogeneous) → v ∈ V → IsVertex F v × IsReduced v
   pub named : (v : Homogeneous) → v ∈ V → NamedEarlier F t v

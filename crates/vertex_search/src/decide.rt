@@ -22,20 +22,13 @@ fn some_behind(vertices: &[HVertex], plane: &Plane) -> bool
     vertices.iter().any(|vertex| is_behind(plane, vertex))
 }
 
-// Whether some vertex is behind each plane.
-fn some_behind_each(planes: &[Plane], vertices: &[HVertex]) -> bool
-    ensures { IsTrue result ↔ All (λ plane. SomeBehind vertices.now (half_space plane)) planes.now }
-{
-    planes.iter().all(|plane| some_behind(vertices, plane))
-}
-
 /// Whether some point is behind all planes, where these are the vertices of a bounded solid.
 pub fn has_inside(planes: &[Plane], vertices: &[HVertex]) -> bool
     requires bounded { Bounded (map half_space planes.now) }
     requires vertices { HoldsVertices (map half_space planes.now) vertices.now }
     ensures { IsTrue result ↔ HasInside (map half_space planes.now) }
 {
-    !vertices.is_empty() && some_behind_each(planes, vertices)
+    !vertices.is_empty() && planes.iter().all(|plane| some_behind(vertices, plane))
 }
 
 // Whether the vertex lies in the world.
@@ -86,13 +79,6 @@ fn is_beside(vertices: &[HVertex], plane: &Plane, other: &Plane) -> bool
     same_halfspace(plane, other) || some_on_behind(vertices, plane, other)
 }
 
-// The same for one plane and all of them.
-fn is_beside_all(planes: &[Plane], vertices: &[HVertex], plane: &Plane) -> bool
-    ensures { IsTrue result ↔ All (λ other. IsBeside vertices.now (half_space plane.now) (half_space other)) planes.now }
-{
-    planes.iter().all(|other| is_beside(vertices, plane, other))
-}
-
 /// Reads each plane. It changes nothing, and tells a proof that the points of each are in range and not on a line.
 pub fn read_planes(planes: &[Plane])
     ensures { All IsPlane planes.now }
@@ -113,5 +99,5 @@ pub fn bears(planes: &[Plane], vertices: &[HVertex], face: usize) -> bool
 {
     read_planes(planes);
     let plane = &planes[face];
-    some_on(vertices, plane) && is_beside_all(planes, vertices, plane)
+    some_on(vertices, plane) && planes.iter().all(|other| is_beside(vertices, plane, other))
 }

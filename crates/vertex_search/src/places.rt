@@ -1,6 +1,6 @@
 //! Where three planes meet, and where a vertex lies.
 
-ghost use Rattle.std.specs.Prelude.{◌≡◌, ◌↔◌, ◌<◌, ◌<ℤ◌, ◌≤ℤ◌, All, map, pos, IsTrue, IsNone, IfSome};
+ghost use Rattle.std.specs.Prelude.{◌≡◌, ◌↔◌, ◌<◌, ◌<ℤ◌, ◌≤ℤ◌, map, pos, IsTrue, IsNone, IfSome};
 ghost use Rattle.algebra.specs.Space.{det, side};
 ghost use Rattle.exact_geom.specs.Planes.{half_space};
 ghost use Rattle.exact_geom.specs.Sides.{sign_of};
@@ -70,18 +70,11 @@ fn is_within(plane: &Plane, vertex: &HVertex) -> bool
     matches!(side_of(plane, vertex), Sign::Behind | Sign::On)
 }
 
-// Whether the vertex is behind or on each plane.
-fn is_within_all(planes: &[Plane], vertex: &HVertex) -> bool
-    ensures { IsTrue result ↔ All (λ plane. side (half_space plane) vertex.now ≤ℤ pos 0) planes.now }
-{
-    planes.iter().all(|plane| is_within(plane, vertex))
-}
-
 /// Whether the vertex is behind or on each plane.
 pub fn is_in(planes: &[Plane], vertex: &HVertex) -> bool
     ensures { IsTrue result ↔ IsIn (map half_space planes.now) vertex.now }
 {
     // What it reads tells that the weight is above 0.
     let _parts = vertex.parts();
-    is_within_all(planes, vertex)
+    planes.iter().all(|plane| is_within(plane, vertex))
 }
