@@ -44,7 +44,7 @@ pub same_count : (decimals : ℕ) (word : List ℕ) (a b : ℤ) → RoundsTo dec
 same_count decimals word a b h k =
     count_from_parts decimals word k.parts k.size a k.has_parts k.nearest h ∙ sym k.is_signed
 
-positive_denominator : (parts : Parts) → 0 < denominator parts
+pub positive_denominator : (parts : Parts) → 0 < denominator parts
 positive_denominator parts = one-le-pow _ 10 (omega arith)
 
 -- an exact value rounds to itself

@@ -1,3 +1,4 @@
+pub mod Count
 pub mod Counts
 pub mod Cuts
 pub mod Decimals

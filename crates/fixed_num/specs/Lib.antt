@@ -1,3 +1,4 @@
+pub mod Count
 pub mod DecimalValue
 pub mod Fraction
 pub mod NumberWord

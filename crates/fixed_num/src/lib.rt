@@ -8,6 +8,7 @@
 //! the small types that the rest of the program keeps numbers and texts in: `Micro`, `Frac`, `Text`.
 
 mod fraction;
+mod laws;
 mod micro;
 mod num_buf;
 mod quotient;
@@ -18,6 +19,7 @@ mod word;
 mod write;
 
 pub use fraction::Frac;
+pub use laws::count_law;
 pub use micro::Micro;
 pub use num_buf::NumBuf;
 pub use quotient::exact_quotient;
