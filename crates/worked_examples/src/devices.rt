@@ -2,6 +2,7 @@
 
 ghost use Rattle.std.specs.Prelude.{◌<◌, length};
 
+use super::table::same;
 use outside_io::{
     Failed, FetchEnd, FileVault, MemSink, MemSource, MemVault, Sink, Source, StdSink, StdSource,
     SureSink, SureSource, SureVault, Vault, give_all,
@@ -33,8 +34,8 @@ fn gives<S: Source>(rt: &impl Abort, source: &mut S, buf: &mut [u8], wants: &[Op
 {
     for (i, want) in wants.iter().enumerate() {
         match source.take(buf) {
-            Ok(n) => assert_eq!(rt; Some(&buf[..n]), *want, "take {i}"),
-            Err(Failed) => assert_eq!(rt; None, *want, "take {i}"),
+            Ok(n) => same(rt, i, &Some(&buf[..n]), want),
+            Err(Failed) => same(rt, i, &None, want),
         }
     }
 }
@@ -48,10 +49,26 @@ fn fetches<V: Vault>(
 ) {
     for (name, limit, want) in wants {
         match vault.fetch(name, *limit, out) {
-            Ok(()) => assert_eq!(rt; Ok(out.as_slice()), *want, "{name} within {limit}"),
-            Err(end) => assert_eq!(rt; Err(end), *want, "{name} within {limit}"),
+            Ok(()) => same(rt, (*name, *limit), &Ok(out.as_slice()), want),
+            Err(end) => same(rt, (*name, *limit), &Err(end), want),
         }
     }
+}
+
+/// What a vault answers where it is to keep bytes.
+fn keeps<V: Vault>(
+    rt: &impl Abort,
+    vault: &mut V,
+    name: &str,
+    bytes: &[u8],
+    want: Result<(), Failed>,
+) {
+    same(rt, name, &vault.keep(name, bytes), &want);
+}
+
+/// What comes of giving a whole piece.
+fn gives_all<S: Sink>(rt: &impl Abort, sink: &mut S, piece: &[u8], want: Result<(), Failed>) {
+    same(rt, piece, &give_all(sink, piece), &want);
 }
 
 #[test]
@@ -91,9 +108,9 @@ fn a_sink_over_memory_takes_whole_pieces_and_fails_at_the_numbered_calls(
         (b"h", Ok(1)),
     ];
     for (piece, want) in calls {
-        assert_eq!(rt; sink.give(piece), want);
+        same(&rt, piece, &sink.give(piece), &want);
     }
-    assert_eq!(rt; sink.given(), b"abefgh".as_slice());
+    same(&rt, "given", &sink.given(), &b"abefgh".as_slice());
     Ok(())
 }
 
@@ -115,9 +132,9 @@ fn a_vault_over_memory_goes_by_the_last_of_equal_names(rt: HostRuntime) -> Resul
             ("c", 10, Err(FetchEnd::Failed)),
         ],
     );
-    assert_eq!(rt; vault.keep("c", b"four"), Err(Failed), "the sixth call");
-    assert_eq!(rt; vault.keep("b", b"fives"), Ok(()));
-    assert_eq!(rt; vault.keep("d", b""), Ok(()));
+    keeps(&rt, &mut vault, "c", b"four", Err(Failed));
+    keeps(&rt, &mut vault, "b", b"fives", Ok(()));
+    keeps(&rt, &mut vault, "d", b"", Ok(()));
     fetches(
         &rt,
         &mut vault,
@@ -129,10 +146,10 @@ fn a_vault_over_memory_goes_by_the_last_of_equal_names(rt: HostRuntime) -> Resul
             ("a", 5, Ok(b"three")),
         ],
     );
-    assert_eq!(rt; vault.kept().len(), 2);
+    same(&rt, "kept", &vault.kept().len(), &2);
     let kept = [("b", b"fives".as_slice()), ("d", b"")];
     for (pair, want) in vault.kept().iter().zip(kept) {
-        assert_eq!(rt; (pair.0.as_str(), pair.1.as_slice()), want);
+        same(&rt, want.0, &(pair.0.as_str(), pair.1.as_slice()), &want);
     }
     Ok(())
 }
@@ -149,8 +166,8 @@ fn the_sure_forms_never_fail(rt: HostRuntime) -> Result<(), Fail> {
         &[Some(b"abc"), Some(b"de"), Some(b"")],
     );
     let mut sink = SureSink::new();
-    assert_eq!(rt; sink.give(b"abc"), Ok(3));
-    assert_eq!(rt; give_all(&mut sink, b"abc"), Ok(()));
+    same(&rt, "give", &sink.give(b"abc"), &Ok(3));
+    gives_all(&rt, &mut sink, b"abc", Ok(()));
     let mut vault = SureVault::new(texts_from(alloc, &[("a", b"one"), ("a", b"two")])?);
     let mut out = Vec::new(alloc);
     fetches(
@@ -163,7 +180,7 @@ fn the_sure_forms_never_fail(rt: HostRuntime) -> Result<(), Fail> {
             ("b", 3, Err(FetchEnd::Failed)),
         ],
     );
-    assert_eq!(rt; vault.keep("b", b"three"), Ok(()));
+    keeps(&rt, &mut vault, "b", b"three", Ok(()));
     fetches(
         &rt,
         &mut vault,
@@ -233,9 +250,9 @@ fn a_stream_is_adapted_with_its_short_calls_and_its_errors(rt: HostRuntime) -> R
     let mut sink = StdSink::new(&mut slow);
     for want in [Ok(2), Ok(1), Err(Failed), Err(Failed), Ok(2)] {
         let piece: &[u8] = if want == Ok(1) { b"c" } else { b"ab" };
-        assert_eq!(rt; sink.give(piece), want);
+        same(&rt, piece, &sink.give(piece), &want);
     }
-    assert_eq!(rt; slow.bytes.as_slice(), b"abcab".as_slice());
+    same(&rt, "given", &slow.bytes.as_slice(), &b"abcab".as_slice());
     Ok(())
 }
 
@@ -253,8 +270,8 @@ fn a_whole_piece_is_given_in_parts_up_to_a_fault(rt: HostRuntime) -> Result<(), 
             calls,
             bytes: Vec::new(alloc),
         };
-        assert_eq!(rt; give_all(&mut StdSink::new(&mut slow), piece), want);
-        assert_eq!(rt; slow.bytes.as_slice(), given);
+        gives_all(&rt, &mut StdSink::new(&mut slow), piece, want);
+        same(&rt, piece, &slow.bytes.as_slice(), &given);
     }
     Ok(())
 }
@@ -268,13 +285,22 @@ fn files_are_kept_and_fetched_and_streamed(rt: HostRuntime) -> Result<(), Fail> 
     fs::create_dir(&rt, FOLDER)?;
     let mut vault = FileVault::new(&rt);
     let mut out = Vec::from_slice(alloc, b"old")?;
-    assert_eq!(rt;
-        vault.keep("outside_io_test/a.map", b"first and longer"),
-        Ok(())
+    keeps(
+        &rt,
+        &mut vault,
+        "outside_io_test/a.map",
+        b"first and longer",
+        Ok(()),
     );
-    assert_eq!(rt; vault.keep("outside_io_test/a.map", b"second"), Ok(()));
-    assert_eq!(rt; vault.keep("outside_io_test/none/a.map", b"x"), Err(Failed));
-    assert_eq!(rt; vault.keep("outside_io_test/empty", b""), Ok(()));
+    keeps(&rt, &mut vault, "outside_io_test/a.map", b"second", Ok(()));
+    keeps(
+        &rt,
+        &mut vault,
+        "outside_io_test/none/a.map",
+        b"x",
+        Err(Failed),
+    );
+    keeps(&rt, &mut vault, "outside_io_test/empty", b"", Ok(()));
     fetches(
         &rt,
         &mut vault,
@@ -290,7 +316,7 @@ fn files_are_kept_and_fetched_and_streamed(rt: HostRuntime) -> Result<(), Fail> 
         ],
     );
     let mut sink = StdSink::new(File::create(&rt, "outside_io_test/b")?);
-    assert_eq!(rt; give_all(&mut sink, b"abcde"), Ok(()));
+    gives_all(&rt, &mut sink, b"abcde", Ok(()));
     let mut source = StdSource::new(File::open(&rt, "outside_io_test/b")?);
     let mut buf = [0; 3];
     gives(

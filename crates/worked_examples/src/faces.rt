@@ -1,5 +1,6 @@
 //! Faces and their copies.
 
+use super::table::same;
 use exact_geom::{Plane, Point};
 use fixed_num::{Micro, Text};
 use std::test::Fail;
@@ -51,10 +52,10 @@ fn a_copy_is_equal(rt: HostRuntime) -> Result<(), Fail> {
             tex,
         };
         let copy = face.copy(rt.alloc())?;
-        assert_eq!(rt; copy.plane, plane);
-        assert_eq!(rt; copy.material.bytes(), material);
-        assert_eq!(rt; copy.tex, tex);
-        assert_eq!(rt; face.material.bytes(), material);
+        same(&rt, material, &copy.plane, &plane);
+        same(&rt, material, &copy.material.bytes(), &material);
+        same(&rt, material, &copy.tex, &tex);
+        same(&rt, material, &face.material.bytes(), &material);
     }
     Ok(())
 }

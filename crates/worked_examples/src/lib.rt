@@ -20,6 +20,8 @@ mod planes;
 #[cfg(test)]
 mod slots;
 #[cfg(test)]
+mod table;
+#[cfg(test)]
 mod tokens;
 #[cfg(test)]
 mod vertices;

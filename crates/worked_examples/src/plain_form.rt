@@ -5,26 +5,25 @@ use map_text::{PlainFault, read_plain, write_plain};
 use std::alloc::{AllocError, Global};
 
 // One box, with comments before and blank lines behind.
-const LINES: [&[u8]; 18] = [
-    b"// Game: Quake",
-    b"// Format: Valve",
-    b"// entity 0",
-    b"{",
-    b"\"classname\" \"worldspawn\"",
-    b"\"mapversion\" \"220\"",
-    b"// brush 0",
-    b"{",
-    b"( -64 -64 -16 ) ( -64 -63 -16 ) ( -64 -64 -15 ) __TB_empty [ 0 -1 0 0 ] [ 0 0 -1 0 ] 0 1 1",
-    b"( -64 -64 -16 ) ( -64 -64 -15 ) ( -63 -64 -16 ) __TB_empty [ 1 0 0 0 ] [ 0 0 -1 0 ] 0 1 1",
-    b"( -64 -64 -16 ) ( -63 -64 -16 ) ( -64 -63 -16 ) __TB_empty [ -1 0 0 0 ] [ 0 -1 0 0 ] 0 1 1",
-    b"( 64 64 16 ) ( 64 65 16 ) ( 65 64 16 ) __TB_empty [ 1 0 0 0 ] [ 0 -1 0 0 ] 0 1 1",
-    b"( 64 64 16 ) ( 65 64 16 ) ( 64 64 17 ) __TB_empty [ -1 0 0 0 ] [ 0 0 -1 0 ] 0 1 1",
-    b"( 64 64 16 ) ( 64 64 17 ) ( 64 65 16 ) __TB_empty [ 0 1 0 0 ] [ 0 0 -1 0 ] 0 1 1",
-    b"}",
-    b"}",
-    b"",
-    b"",
-];
+const LINES: &str = r#"// Game: Quake
+// Format: Valve
+// entity 0
+{
+"classname" "worldspawn"
+"mapversion" "220"
+// brush 0
+{
+( -64 -64 -16 ) ( -64 -63 -16 ) ( -64 -64 -15 ) __TB_empty [ 0 -1 0 0 ] [ 0 0 -1 0 ] 0 1 1
+( -64 -64 -16 ) ( -64 -64 -15 ) ( -63 -64 -16 ) __TB_empty [ 1 0 0 0 ] [ 0 0 -1 0 ] 0 1 1
+( -64 -64 -16 ) ( -63 -64 -16 ) ( -64 -63 -16 ) __TB_empty [ -1 0 0 0 ] [ 0 -1 0 0 ] 0 1 1
+( 64 64 16 ) ( 64 65 16 ) ( 65 64 16 ) __TB_empty [ 1 0 0 0 ] [ 0 -1 0 0 ] 0 1 1
+( 64 64 16 ) ( 65 64 16 ) ( 64 64 17 ) __TB_empty [ -1 0 0 0 ] [ 0 0 -1 0 ] 0 1 1
+( 64 64 16 ) ( 64 64 17 ) ( 64 65 16 ) __TB_empty [ 0 1 0 0 ] [ 0 0 -1 0 ] 0 1 1
+}
+}
+
+
+"#;
 
 // The lines from one place up to another, each ended by a line feed, with one line in place of the one at a place.
 fn text_with(
@@ -35,9 +34,10 @@ fn text_with(
     line: &[u8],
 ) -> Result<Vec<u8>, AllocError> {
     let mut text = Vec::new(alloc);
-    for (k, old) in LINES.iter().enumerate() {
+    for (k, old) in LINES.lines().enumerate() {
         if from <= k && k < to {
-            text.extend_from_slice(if k == at { line } else { *old })?;
+            let text_of_line = if k == at { line } else { old.as_bytes() };
+            text.extend_from_slice(text_of_line)?;
             text.push(b'\n')?;
         }
     }
@@ -46,8 +46,68 @@ fn text_with(
 
 #[cfg(test)]
 mod tests {
+    use super::super::table::{bytes, cases, number, same, word};
     use super::*;
+    use map_text::{PlainFace, PlainMap};
+    use std::process::Abort;
     use std::test::Fail;
+
+    // A place in the lines, and a line in its place that breaks one rule, where `%` and two digits stand for a byte.
+    const BROKEN: &str =
+        r#"11 | ( 64 64 16 )  ( 64 65 16 ) ( 65 64 16 ) a [ 1 0 0 0 ] [ 0 -1 0 0 ] 0 1 1
+11 | ( 64 64 16 )%09( 64 65 16 ) ( 65 64 16 ) a [ 1 0 0 0 ] [ 0 -1 0 0 ] 0 1 1
+11 | %20( 64 64 16 ) ( 64 65 16 ) ( 65 64 16 ) a [ 1 0 0 0 ] [ 0 -1 0 0 ] 0 1 1
+11 | ( 64 64 16 ) ( 64 65 16 ) ( 65 64 16 ) a [ 1 0 0 0 ] [ 0 -1 0 0 ] 0 1 1%20
+11 | ( 64 64 16 ) ( 64 65 16 ) ( 65 64 16 ) a [ 1 0 0 0 ] [ 0 -1 0 0 ] 0 1 1%0D
+11 | ( 64 64 16 ) ( 64 65 16 ) ( 65 64 16 ) a [ 1 0 0 0 ] [ 0 -1 0 0 ] 0 1 1 1
+11 | ( 64 64 16 ) ( 64 65 16 ) ( 65 64 16 ) a [ 1 0 0 0 ] [ 0 -1 0 0 ] 0 1
+11 | ( 64 64 16 ) ( 64 65 16 ) ( 65 64 16 ) a [ 1 0 0 0 ] [ 0 -1 0 0 ] 0 1 1234567
+11 | ( 64 64 16 ) ( 64 65 16 ) ( 65 64 16 ) a [ 1 0 0 0 ] [ 0 -1 0 0 ] 0 1 1.0
+11 | ( 64 64 16 ) ( 64 65 16 ) ( 65 64 16 ) a [ 1 0 0 0 ] [ 0 -1 0 0 ] 0 1 -
+11 | ( 64 64 16 ) ( 64 65 16 ) ( 65 64 16 ) a [ 1 0 0 0 ] [ 0 -1 0 0 ] 0 1 +1
+11 | ( 64 64 16 ) ( 64 65 16 ) ( 65 64 16 ) a-b [ 1 0 0 0 ] [ 0 -1 0 0 ] 0 1 1
+11 | ( 64 64 16 ) ( 64 65 16 ) ( 65 64 16 )  [ 1 0 0 0 ] [ 0 -1 0 0 ] 0 1 1
+11 | ( 64 64 16 ) ( 64 65 16 ) ( 65 64 16 ) a 0 0 0 1 1
+11 | ( 64 64 4353 ) ( 64 65 4353 ) ( 65 64 4353 ) a [ 1 0 0 0 ] [ 0 -1 0 0 ] 0 1 1
+11 | ( 64 64 16 ) ( 64 65 16 ) ( 64 66 16 ) a [ 1 0 0 0 ] [ 0 -1 0 0 ] 0 1 1
+11 | ( 64 64 16 ) ( 65 64 16 ) ( 64 65 16 ) a [ 1 0 0 0 ] [ 0 -1 0 0 ] 0 1 1
+11 | ( 64 64 -16 ) ( 64 65 -16 ) ( 65 64 -16 ) a [ 1 0 0 0 ] [ 0 -1 0 0 ] 0 1 1
+11 | ( 64 64 -17 ) ( 64 65 -17 ) ( 65 64 -17 ) a [ 1 0 0 0 ] [ 0 -1 0 0 ] 0 1 1
+11 | ( 64 64 4097 ) ( 64 65 4097 ) ( 65 64 4097 ) a [ 1 0 0 0 ] [ 0 -1 0 0 ] 0 1 1
+11 | ( 64 64 16 ) ( 64 65 17 ) ( 65 64 16 ) a [ 1 0 0 0 ] [ 0 -1 0 0 ] 0 1 1
+11 |
+11 | ( 64 64 16 ) ( 64 65 16 ) ( 65 64 16 ) a [ 1 0 0 0 ] [ 0 -1 0 0 ] 0 1 1%0A( 64 64 16 ) ( 64 65 16 ) ( 65 64 16 ) a [ 1 0 0 0 ] [ 0 -1 0 0 ] 0 1 1
+3 |
+4 | "classname" "light"
+5 |
+5 | "mapversion"  "220"
+7 | %20{
+14 |
+16 | // a%09b
+17 | {
+"#;
+
+    fn check_face(rt: &impl Abort, face: &PlainFace) {
+        let place = Point {
+            x: 64,
+            y: 65,
+            z: 16,
+        };
+        same(rt, "point", &face.points[1], &place);
+        same(rt, "name", &face.name.list(), &b"__TB_empty".as_slice());
+        same(
+            rt,
+            "numbers",
+            &face.numbers,
+            &[1, 0, 0, 0, 0, -1, 0, 0, 0, 1, 1],
+        );
+    }
+
+    fn saves(rt: &(impl Abort + AllocGlobal), map: &PlainMap, text: &[u8]) -> Result<(), Fail> {
+        let saved = write_plain(rt.alloc(), map)?;
+        same(rt, "saved", &saved.as_slice(), &text);
+        Ok(())
+    }
 
     #[test]
     fn a_box_is_read_and_saved(rt: HostRuntime) -> Result<(), Fail> {
@@ -55,139 +115,27 @@ mod tests {
         let map = read_plain(alloc, &text_with(alloc, 0, 18, 18, b"")?)
             .ok()
             .ok_or("not read")?;
-        assert_eq!(rt; map.brushes.list().len(), 1);
+        assert!(rt; map.brushes.list().len() == 1);
         let faces = map.brushes.list()[0].faces.list();
-        assert_eq!(rt; faces.len(), 6);
-        let face = &faces[3];
-        assert_eq!(rt;
-            face.points[1],
-            Point {
-                x: 64,
-                y: 65,
-                z: 16
-            }
-        );
-        assert_eq!(rt; face.name.list(), b"__TB_empty".as_slice());
-        assert_eq!(rt; face.numbers, [1, 0, 0, 0, 0, -1, 0, 0, 0, 1, 1]);
-        let saved = write_plain(alloc, &map)?;
-        assert_eq!(rt;
-            saved.as_slice(),
-            text_with(alloc, 2, 16, 18, b"")?.as_slice()
-        );
-        Ok(())
+        assert!(rt; faces.len() == 6);
+        check_face(&rt, &faces[3]);
+        saves(&rt, &map, &text_with(alloc, 2, 16, 18, b"")?)
     }
 
     #[test]
     fn each_rule_broken_once_is_not_built(rt: HostRuntime) -> Result<(), Fail> {
         let alloc = rt.alloc();
-        let broken: [(usize, &[u8]); 31] = [
-            (
-                11,
-                b"( 64 64 16 )  ( 64 65 16 ) ( 65 64 16 ) a [ 1 0 0 0 ] [ 0 -1 0 0 ] 0 1 1",
-            ),
-            (
-                11,
-                b"( 64 64 16 )\t( 64 65 16 ) ( 65 64 16 ) a [ 1 0 0 0 ] [ 0 -1 0 0 ] 0 1 1",
-            ),
-            (
-                11,
-                b" ( 64 64 16 ) ( 64 65 16 ) ( 65 64 16 ) a [ 1 0 0 0 ] [ 0 -1 0 0 ] 0 1 1",
-            ),
-            (
-                11,
-                b"( 64 64 16 ) ( 64 65 16 ) ( 65 64 16 ) a [ 1 0 0 0 ] [ 0 -1 0 0 ] 0 1 1 ",
-            ),
-            (
-                11,
-                b"( 64 64 16 ) ( 64 65 16 ) ( 65 64 16 ) a [ 1 0 0 0 ] [ 0 -1 0 0 ] 0 1 1\r",
-            ),
-            (
-                11,
-                b"( 64 64 16 ) ( 64 65 16 ) ( 65 64 16 ) a [ 1 0 0 0 ] [ 0 -1 0 0 ] 0 1 1 1",
-            ),
-            (
-                11,
-                b"( 64 64 16 ) ( 64 65 16 ) ( 65 64 16 ) a [ 1 0 0 0 ] [ 0 -1 0 0 ] 0 1",
-            ),
-            (
-                11,
-                b"( 64 64 16 ) ( 64 65 16 ) ( 65 64 16 ) a [ 1 0 0 0 ] [ 0 -1 0 0 ] 0 1 1234567",
-            ),
-            (
-                11,
-                b"( 64 64 16 ) ( 64 65 16 ) ( 65 64 16 ) a [ 1 0 0 0 ] [ 0 -1 0 0 ] 0 1 1.0",
-            ),
-            (
-                11,
-                b"( 64 64 16 ) ( 64 65 16 ) ( 65 64 16 ) a [ 1 0 0 0 ] [ 0 -1 0 0 ] 0 1 -",
-            ),
-            (
-                11,
-                b"( 64 64 16 ) ( 64 65 16 ) ( 65 64 16 ) a [ 1 0 0 0 ] [ 0 -1 0 0 ] 0 1 +1",
-            ),
-            (
-                11,
-                b"( 64 64 16 ) ( 64 65 16 ) ( 65 64 16 ) a-b [ 1 0 0 0 ] [ 0 -1 0 0 ] 0 1 1",
-            ),
-            (
-                11,
-                b"( 64 64 16 ) ( 64 65 16 ) ( 65 64 16 )  [ 1 0 0 0 ] [ 0 -1 0 0 ] 0 1 1",
-            ),
-            (11, b"( 64 64 16 ) ( 64 65 16 ) ( 65 64 16 ) a 0 0 0 1 1"),
-            (
-                11,
-                b"( 64 64 4353 ) ( 64 65 4353 ) ( 65 64 4353 ) a [ 1 0 0 0 ] [ 0 -1 0 0 ] 0 1 1",
-            ),
-            (
-                11,
-                b"( 64 64 16 ) ( 64 65 16 ) ( 64 66 16 ) a [ 1 0 0 0 ] [ 0 -1 0 0 ] 0 1 1",
-            ),
-            (
-                11,
-                b"( 64 64 16 ) ( 65 64 16 ) ( 64 65 16 ) a [ 1 0 0 0 ] [ 0 -1 0 0 ] 0 1 1",
-            ),
-            (
-                11,
-                b"( 64 64 -16 ) ( 64 65 -16 ) ( 65 64 -16 ) a [ 1 0 0 0 ] [ 0 -1 0 0 ] 0 1 1",
-            ),
-            (
-                11,
-                b"( 64 64 -17 ) ( 64 65 -17 ) ( 65 64 -17 ) a [ 1 0 0 0 ] [ 0 -1 0 0 ] 0 1 1",
-            ),
-            (
-                11,
-                b"( 64 64 4097 ) ( 64 65 4097 ) ( 65 64 4097 ) a [ 1 0 0 0 ] [ 0 -1 0 0 ] 0 1 1",
-            ),
-            (
-                11,
-                b"( 64 64 16 ) ( 64 65 17 ) ( 65 64 16 ) a [ 1 0 0 0 ] [ 0 -1 0 0 ] 0 1 1",
-            ),
-            (11, b""),
-            (
-                11,
-                b"( 64 64 16 ) ( 64 65 16 ) ( 65 64 16 ) a [ 1 0 0 0 ] [ 0 -1 0 0 ] 0 1 1\n( 64 64 16 ) ( 64 65 16 ) ( 65 64 16 ) a [ 1 0 0 0 ] [ 0 -1 0 0 ] 0 1 1",
-            ),
-            (3, b""),
-            (4, b"\"classname\" \"light\""),
-            (5, b""),
-            (5, b"\"mapversion\"  \"220\""),
-            (7, b" {"),
-            (14, b""),
-            (16, b"// a\tb"),
-            (17, b"{"),
-        ];
-        for (at, line) in broken {
-            let text = text_with(alloc, 0, 18, at, line)?;
-            assert!(rt;
-                matches!(read_plain(alloc, &text), Err(PlainFault::NotBuilt)),
-                "{at}"
-            );
+        for line in cases(&rt, BROKEN, 31, 2) {
+            let other = bytes(&rt, line, word(&rt, line, 1));
+            let text = text_with(alloc, 0, 18, number(&rt, line, 0), &other)?;
+            let refused = matches!(read_plain(alloc, &text), Err(PlainFault::NotBuilt));
+            same(&rt, line, &refused, &true);
         }
         let text = text_with(alloc, 0, 16, 18, b"")?;
         let ends: [usize; 3] = [0, 1, 3];
         for end in ends {
             let cut = &text[..text.len().saturating_sub(end)];
-            assert_eq!(rt; read_plain(alloc, cut).is_ok(), end == 0, "{end}");
+            same(&rt, end, &read_plain(alloc, cut).is_ok(), &(end == 0));
         }
         Ok(())
     }
@@ -195,19 +143,14 @@ mod tests {
     #[test]
     fn a_number_is_saved_in_its_shortest_spelling(rt: HostRuntime) -> Result<(), Fail> {
         let alloc = rt.alloc();
-        let spelled: &[u8] =
+        let spelled =
             b"( 064 64 000016 ) ( 64 65 16 ) ( 65 64 16 ) 1 [ 01 -0 0 -000 ] [ 0 -01 0 999999 ] -999999 1 1";
-        let shortest: &[u8] =
+        let shortest =
             b"( 64 64 16 ) ( 64 65 16 ) ( 65 64 16 ) 1 [ 1 0 0 0 ] [ 0 -1 0 999999 ] -999999 1 1";
         let map = read_plain(alloc, &text_with(alloc, 0, 18, 11, spelled)?)
             .ok()
             .ok_or("not read")?;
-        let saved = write_plain(alloc, &map)?;
-        assert_eq!(rt;
-            saved.as_slice(),
-            text_with(alloc, 2, 16, 11, shortest)?.as_slice()
-        );
-        Ok(())
+        saves(&rt, &map, &text_with(alloc, 2, 16, 11, shortest)?)
     }
 
     #[test]
@@ -218,19 +161,15 @@ mod tests {
             b"//\n\n{\n// \xff~\n\"classname\" \"worldspawn\"\n\n\"mapversion\" \"220\"\n}\n//{",
         )
         .is_ok();
-        assert_eq!(rt; kept, false, "the last line is not ended");
+        same(&rt, "the last line is not ended", &kept, &false);
         let map = read_plain(
             alloc,
             b"//\n\n{\n// \xff~\n\"classname\" \"worldspawn\"\n\n\"mapversion\" \"220\"\n}\n//{\n",
         )
         .ok()
         .ok_or("not read")?;
-        let saved = write_plain(alloc, &map)?;
-        assert_eq!(rt;
-            saved.as_slice(),
-            b"// entity 0\n{\n\"classname\" \"worldspawn\"\n\"mapversion\" \"220\"\n}\n".as_slice()
-        );
         assert!(rt; matches!(read_plain(alloc, b""), Err(PlainFault::NotBuilt)));
-        Ok(())
+        let text = b"// entity 0\n{\n\"classname\" \"worldspawn\"\n\"mapversion\" \"220\"\n}\n";
+        saves(&rt, &map, text)
     }
 }

@@ -1,7 +1,9 @@
 //! Arenas beside a plain list of slots.
+
 ghost use Rattle.std.specs.Prelude.{◌≡◌, ◌<◌};
 ghost use Rattle.half_arena.specs.Slots.{contents};
 
+use super::table::same;
 use half_arena::{Arena, EdgeId, FaceId, SlotId, VertId};
 use std::test::Fail;
 
@@ -36,26 +38,25 @@ fn arena_is_a_list_of_slots(rt: HostRuntime) -> Result<(), Fail> {
         if state / 8388608 % 3 != 0 && arena.len() < 40 {
             arena.reserve(1)?;
             let place = arena.insert(step).place();
-            assert!(rt; place < 64, "{step}");
-            assert_eq!(rt; plain[place], None, "{step}");
+            assert!(rt; place < 64);
+            same(&rt, step, &plain[place], &None);
             plain[place] = Some(step);
         } else {
             let place = (state / 65536 % 64) as usize;
-            assert_eq!(rt; arena.take(EdgeId::at(place)), plain[place], "{step}");
+            same(&rt, step, &arena.take(EdgeId::at(place)), &plain[place]);
             plain[place] = None;
         }
     }
     for place in 0..64 {
-        assert_eq!(rt;
-            arena.get(EdgeId::at(place)).copied(),
-            plain[place],
-            "{place}"
+        same(
+            &rt,
+            place,
+            &arena.get(EdgeId::at(place)).copied(),
+            &plain[place],
         );
     }
-    assert_eq!(rt;
-        arena.len(),
-        plain.iter().filter(|slot| slot.is_some()).count()
-    );
+    let count = plain.iter().filter(|slot| slot.is_some()).count();
+    same(&rt, "count", &arena.len(), &count);
     assert!(rt; arena.place_limit() >= arena.len());
     Ok(())
 }
@@ -63,15 +64,16 @@ fn arena_is_a_list_of_slots(rt: HostRuntime) -> Result<(), Fail> {
 #[test]
 fn inserts_after_one_reserve_need_no_memory(rt: HostRuntime) -> Result<(), Fail> {
     let mut arena: Arena<u64, FaceId> = Arena::new(rt.alloc());
-    assert_eq!(rt; (arena.spare(), arena.len()), (0, 0));
+    same(&rt, "new", &(arena.spare(), arena.len()), &(0, 0));
     arena.reserve(5)?;
     let spare = arena.spare();
     for value in 0..5u64 {
-        assert!(rt; arena.spare() > 0, "{value}");
+        assert!(rt; arena.spare() > 0);
         let id = arena.insert(value);
-        assert_eq!(rt; arena.get(id).copied(), Some(value));
+        same(&rt, value, &arena.get(id).copied(), &Some(value));
     }
-    assert_eq!(rt; (arena.spare(), arena.len()), (spare.wrapping_sub(5), 5));
+    let left = spare.wrapping_sub(5);
+    same(&rt, "full", &(arena.spare(), arena.len()), &(left, 5));
     Ok(())
 }
 
@@ -84,16 +86,12 @@ fn a_write_changes_one_value(rt: HostRuntime) -> Result<(), Fail> {
     let second = arena.insert(20);
     assert!(rt; first != second);
     assert!(rt; replace(&mut arena, first, 11));
-    assert_eq!(rt;
-        (arena.get(first).copied(), arena.get(second).copied()),
-        (Some(11), Some(20))
-    );
-    assert_eq!(rt; arena.take(first), Some(11));
+    same(&rt, "first", &arena.get(first).copied(), &Some(11));
+    same(&rt, "second", &arena.get(second).copied(), &Some(20));
+    same(&rt, "taken", &arena.take(first), &Some(11));
     assert!(rt; !replace(&mut arena, first, 12));
-    assert_eq!(rt;
-        (arena.get(first).copied(), arena.get(second).copied()),
-        (None, Some(20))
-    );
-    assert_eq!(rt; arena.take(first), None);
+    same(&rt, "first", &arena.get(first).copied(), &None);
+    same(&rt, "second", &arena.get(second).copied(), &Some(20));
+    same(&rt, "taken", &arena.take(first), &None);
     Ok(())
 }

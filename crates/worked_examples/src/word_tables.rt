@@ -1,4 +1,6 @@
 //! Words and tables of words.
+
+use super::table::{bytes, cases, same, shows, word};
 use key_table::{Keys, Word, command_keys, file_keys};
 use std::process::Abort;
 
@@ -23,44 +25,52 @@ fn each_word_has_its_place(rt: HostRuntime) {
     assert!(rt; finds_all(&file_keys(), files));
 }
 
+// Words that are no command, where `%` and two digits stand for a byte, and their place.
+const NO_COMMANDS: &str = "\
+| None
+%20 | None
+bo | None
+boxx | None
+Box | None
+BOX | None
+box%20 | None
+%20box | None
+box%00 | None
+%00box | None
+tre | None
+trees | None
+zebra | None
+a | None
+undo redo | None
+lock on | None
+classname | None
+subtractsubtractsubtractsubtracts | None
+";
+
+// Words that are no key of a file, and their place.
+const NO_FILE_KEYS: &str = "\
+_tb_ | None
+_tb_types | None
+_TB_TYPE | None
+tb_type | None
+_tb_layer_ | None
+_tb_layer_lock | None
+origin | None
+classname | None
+_tb_protected_properties_and_more | None
+";
+
 #[test]
 fn near_misses_are_not_there(rt: HostRuntime) {
     let commands = command_keys();
-    for word in [
-        "",
-        " ",
-        "bo",
-        "boxx",
-        "Box",
-        "BOX",
-        "box ",
-        " box",
-        "box\0",
-        "\0box",
-        "tre",
-        "trees",
-        "zebra",
-        "a",
-        "undo redo",
-        "lock on",
-        "classname",
-        "subtractsubtractsubtractsubtracts",
-    ] {
-        assert_eq!(rt; commands.find(word.as_bytes()), None, "{word}");
+    for line in cases(&rt, NO_COMMANDS, 18, 2) {
+        let text = bytes(&rt, line, word(&rt, line, 0));
+        shows(&rt, line, &commands.find(&text), word(&rt, line, 1));
     }
     let files = file_keys();
-    for word in [
-        "_tb_",
-        "_tb_types",
-        "_TB_TYPE",
-        "tb_type",
-        "_tb_layer_",
-        "_tb_layer_lock",
-        "origin",
-        "classname",
-        "_tb_protected_properties_and_more",
-    ] {
-        assert_eq!(rt; files.find(word.as_bytes()), None, "{word}");
+    for line in cases(&rt, NO_FILE_KEYS, 9, 2) {
+        let text = bytes(&rt, line, word(&rt, line, 0));
+        shows(&rt, line, &files.find(&text), word(&rt, line, 1));
     }
 }
 
@@ -71,9 +81,9 @@ fn words_end_at_thirty_two_bytes(rt: HostRuntime) {
         let word = Word::of(&longest[..len]);
         if len <= 32 {
             let kept = word.is_some_and(|word| word.bytes() == &longest[..len]);
-            assert!(rt; kept, "{len}");
+            same(&rt, len, &kept, &true);
         } else {
-            assert!(rt; word.is_none(), "{len}");
+            same(&rt, len, &word.is_none(), &true);
         }
     }
     // Zeros at the end are part of a word.
@@ -82,31 +92,31 @@ fn words_end_at_thirty_two_bytes(rt: HostRuntime) {
     assert!(rt; Word::of(b"same") == Word::of(b"same"));
 }
 
+// Whether three words make a table, which then finds each at its place.
+fn check_three(rt: &impl Abort, texts: [&str; 3], wanted: bool) {
+    match Keys::of([key(rt, texts[0]), key(rt, texts[1]), key(rt, texts[2])]) {
+        Some(keys) => {
+            same(rt, texts, &true, &wanted);
+            for (place, text) in texts.iter().enumerate() {
+                same(rt, texts, &keys.find(text.as_bytes()), &Some(place));
+            }
+            same(rt, texts, &keys.find(b"four"), &None);
+        }
+        None => same(rt, texts, &false, &wanted),
+    }
+}
+
 #[test]
 fn equal_words_make_no_table(rt: HostRuntime) {
-    for (a, b, c, wanted) in [
-        ("one", "two", "three", true),
-        ("one", "two", "one", false),
-        ("one", "one", "two", false),
-        ("one", "two", "two", false),
-        ("", "\0", "\0\0", true),
-    ] {
-        let words = [word(&rt, a), word(&rt, b), word(&rt, c)];
-        match Keys::of(words) {
-            Some(keys) => {
-                assert!(rt; wanted, "{a} {b} {c}");
-                assert_eq!(rt; keys.find(a.as_bytes()), Some(0), "{a}");
-                assert_eq!(rt; keys.find(b.as_bytes()), Some(1), "{b}");
-                assert_eq!(rt; keys.find(c.as_bytes()), Some(2), "{c}");
-                assert_eq!(rt; keys.find(b"four"), None);
-            }
-            None => assert!(rt; !wanted, "{a} {b} {c}"),
-        }
-    }
+    check_three(&rt, ["one", "two", "three"], true);
+    check_three(&rt, ["one", "two", "one"], false);
+    check_three(&rt, ["one", "one", "two"], false);
+    check_three(&rt, ["one", "two", "two"], false);
+    check_three(&rt, ["", "\0", "\0\0"], true);
     let none: [Word; 0] = [];
     assert!(rt; Keys::of(none).is_some_and(|keys| keys.find(b"").is_none()));
 }
 
-fn word(rt: &impl Abort, text: &str) -> Word {
+fn key(rt: &impl Abort, text: &str) -> Word {
     Word::of(text.as_bytes()).expect(rt, "the text is short")
 }
