@@ -1,3 +1,16 @@
+mod Fillings
+mod Acceptance
+mod OneReading
+mod MapTexts
+mod EntityTexts
+mod BrushTexts
+mod BrushReasons
+mod FaceTexts
+mod TextureTexts
+mod PointTexts
+mod Judging
+mod NumberTexts
+mod Passing
 pub mod OptionLemmas
 pub mod PieceLemmas
 pub mod NumberLemmas

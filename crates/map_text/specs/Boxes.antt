@@ -1,5 +1,5 @@
 -- Brushes whose faces look along the axes.
-use Rattle.std.specs.Prelude.{ℤ, pos, neg_ℤ, ◌+ℤ◌, Bool, false, ◌&&◌, ◌==◌, int_lt, int_le, List, [], ◌∷◌, length, map, Option, Some}
+use Rattle.std.specs.Prelude.{ℤ, pos, neg_ℤ, ◌+ℤ◌, Bool, false, ◌&&◌, ◌==◌, int_lt, int_le, List, [], ◌∷◌, length, Option, Some}
 use Rattle.std.specs.Option.{option_map, option_map_or}
 use Rattle.std.specs.List.{find, list_all}
 use Rattle.std.specs.Ordering.{int_eq}
@@ -8,7 +8,6 @@ use Rattle.exact_geom.specs.Planes.{vector, half_space}
 use Rattle.map_text.specs.declared.direction.Direction.{Direction}
 use Rattle.map_text.specs.declared.direction.Direction.TheVariants.{East, West, North, South, Up, Down}
 use Rattle.map_text.specs.declared.plain_map.PlainFace.{PlainFace}
-use Rattle.map_text.specs.declared.plain_map.PlainBrush.{PlainBrush}
 use Rattle.map_text.specs.FaceLine.{three_points, has_plane}
 
 -- How far a point lies in a direction.

@@ -4,3 +4,12 @@ pub mod FaceLine
 pub mod Boxes
 pub mod PlainForm
 pub mod SavedText
+pub mod Grammar
+pub mod Fits
+pub mod Meaning
+pub mod Refusals
+pub mod Reads
+pub mod Judged
+pub mod Reading
+pub mod Parts
+pub mod Items

@@ -1,0 +1,13 @@
+pub mod WriteLemmas
+pub mod Tests
+pub mod Tokens
+pub mod Gives
+pub mod NumberWords
+pub mod Lines
+pub mod FaceFacts
+pub mod FileTokens
+pub mod FaceBack
+pub mod DocumentBack
+pub mod ReadTokens
+pub mod ReadFaces
+pub mod ReadDocuments

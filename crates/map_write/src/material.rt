@@ -1,0 +1,46 @@
+//! Writes the material of a face.
+
+ghost use Rattle.std.specs.Prelude.{◌≡◌, ◌++◌, OnOk};
+ghost use Rattle.std.specs.List.{list_any};
+ghost use Rattle.map_lex.specs.Bytes.{begins_comment, is_blank};
+ghost use Rattle.map_write.specs.Written.{material_symbol, needs_quotes, written};
+
+use std::alloc::AllocError;
+
+fn is_blank(byte: u8) -> bool
+    ensures { result ≡ is_blank byte }
+{
+    matches!(byte, b' ' | b'\t' | b'\r' | b'\n')
+}
+
+fn has_blank(material: &[u8]) -> bool
+    ensures { result ≡ list_any is_blank material.now }
+{
+    material.iter().any(|byte| is_blank(*byte))
+}
+
+fn begins_comment(material: &[u8]) -> bool
+    ensures { result ≡ begins_comment material.now }
+{
+    matches!(material, [b'/', b'/', ..])
+}
+
+fn needs_quotes(material: &[u8]) -> bool
+    ensures { result ≡ needs_quotes material.now }
+{
+    material.is_empty() || has_blank(material) || begins_comment(material)
+}
+
+/// Appends a material, between quotes where a word can't be it.
+pub(crate) fn write_material(text: &mut Vec<u8>, material: &[u8]) -> Result<(), AllocError>
+    ensures { OnOk result (text.new.items ≡ text.old.items ++ written (material_symbol material.now)) }
+{
+    if !needs_quotes(material) {
+        text.extend_from_slice(material)?;
+        return Ok(());
+    }
+    text.push(b'"')?;
+    text.extend_from_slice(material)?;
+    text.push(b'"')?;
+    Ok(())
+}
