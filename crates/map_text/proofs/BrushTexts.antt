@@ -15,7 +15,7 @@ use Rattle.map_text.specs.Grammar.{FaceText, face_symbols, bracket}
 use Rattle.map_text.specs.Fits.{face_fits}
 use Rattle.map_text.specs.Meaning.{raw_brush_of}
 use Rattle.map_text.specs.Refusals.{first_in_brush, a_face, rest_of_face, is_bracket, names_block, step, fits, refused}
-use Rattle.map_text.specs.Reading.{ReaderState, Passes, IsNext, IsRead, IsStopped, is_inner}
+use Rattle.map_text.specs.Reading.{ReaderState, Passes, IsNext, IsRead, IsRefused, is_inner}
 use Rattle.map_text.specs.Judged.{with_face}
 use Rattle.map_text.specs.Parts.{face_part, brush_part, format_of_face, face_place, BeginsFace}
 use Rattle.map_text.proofs.Passing.{is_texture, passes_none, passes_as, passes_token, stops_token, bracket_of, joined, framed, all_appended, shorter, no_longer}
@@ -52,10 +52,10 @@ begins_face_no old new t first next h k l =
     passes_token old new (face_place first) t [] (bracket 125) next (no_texture_there first) (face_closes first t h k l old.first) (bracket_of t 125 l)
 
 pub no_face : (old new : ReaderState) (t : TokenValue) (first : Bool) → IsNext old t new → (first && names_block t) ≡ false → is_bracket 40 t ≡ false → is_bracket 125 t ≡ false
-    → IsStopped old (face_place first ∷ []) (Expected AFace t.line)
+    → IsRefused old (face_place first ∷ []) (Expected AFace t.line)
 no_face old new t first next h k l = stops_token old new (face_place first) t (Expected AFace t.line) next (face_unfits first t h k l old.first)
 
-pub other_block : (old new : ReaderState) (t : TokenValue) (first : Bool) → IsNext old t new → first ≡ true → names_block t ≡ true → IsStopped old (face_place first ∷ []) (UnknownBlock t.line)
+pub other_block : (old new : ReaderState) (t : TokenValue) (first : Bool) → IsNext old t new → first ≡ true → names_block t ≡ true → IsRefused old (face_place first ∷ []) (UnknownBlock t.line)
 other_block old new t first next h k = stops_token old new (face_place first) t (UnknownBlock t.line) next (block_stops first t h k old.first)
 
 pub is_inner_face : (first : Bool) → is_inner (face_place first) ≡ true

@@ -17,7 +17,7 @@ use Rattle.map_text.specs.Grammar.{PointText, symbol_of}
 use Rattle.map_text.specs.Fits.{is_material, texture_numbers}
 use Rattle.map_text.specs.Meaning.{is_whole, whole_of, point_of, tex_of}
 use Rattle.map_text.specs.Refusals.{a_material, a_texture, rest_of_face}
-use Rattle.map_text.specs.Reading.{ReaderState, IsNext, IsRead, IsStopped}
+use Rattle.map_text.specs.Reading.{ReaderState, IsNext, IsRead, IsRefused}
 use Rattle.map_text.specs.Judged.{judge, first_of, or_else, coordinate_reason, point_reason, points_reason, texture_reason, flat_or, three_of, face_from}
 use Rattle.map_text.specs.Parts.{points_part, points_places, material_part, texture_part, face_part, point_fits}
 use Rattle.map_text.proofs.Passing.{next_part, all_appended, passes_token, stops_token, and_left, and_right}
@@ -32,7 +32,7 @@ material_read old new t next fit = record {
   meaning = refl;
 }
 
-pub no_material : (old new : ReaderState) (t : TokenValue) → IsNext old t new → is_material (symbol_of t) ≡ false → IsStopped old (a_material ∷ []) (Expected Material t.line)
+pub no_material : (old new : ReaderState) (t : TokenValue) → IsNext old t new → is_material (symbol_of t) ≡ false → IsRefused old (a_material ∷ []) (Expected Material t.line)
 no_material old new t next unfit = stops_token old new a_material t (Expected Material t.line) next (rw unfit refl)
 
 -- ---- three points without a reason are in range

@@ -16,7 +16,7 @@ use Rattle.map_text.specs.declared.read_fault.What.TheVariants.{Number}
 use Rattle.map_text.specs.Grammar.{symbol_of, word}
 use Rattle.map_text.specs.Meaning.{is_whole, whole_of, is_large}
 use Rattle.map_text.specs.Refusals.{a_number, is_number}
-use Rattle.map_text.specs.Reading.{ReaderState, IsNext, IsRead, IsStopped}
+use Rattle.map_text.specs.Reading.{ReaderState, IsNext, IsRead, IsRefused}
 use Rattle.map_text.specs.Judged.{judge, coordinate_reason, texture_if, coordinate_in, texture_number_in}
 use Rattle.map_text.specs.Parts.{coordinate_part, number_part}
 use Rattle.map_text.proofs.Passing.{passes_token, stops_token, word_of, and_left, and_right, not_true}
@@ -148,12 +148,12 @@ number_read old new t value next found =
       meaning = is.1;
     }
 
-pub no_coordinate : (old new : ReaderState) (t : TokenValue) → IsNext old t new → None ≡ coordinate_in t → IsStopped old (a_number ∷ []) (Expected Number t.line)
+pub no_coordinate : (old new : ReaderState) (t : TokenValue) → IsNext old t new → None ≡ coordinate_in t → IsRefused old (a_number ∷ []) (Expected Number t.line)
 no_coordinate old new t next none =
     let is : is_number t ≡ false = no_number_if t (judge (coordinate_reason t.text) (whole_of t.text)) none in
     stops_token old new a_number t (Expected Number t.line) next (rw is refl)
 
-pub no_texture_number : (old new : ReaderState) (t : TokenValue) → IsNext old t new → None ≡ texture_number_in t → IsStopped old (a_number ∷ []) (Expected Number t.line)
+pub no_texture_number : (old new : ReaderState) (t : TokenValue) → IsNext old t new → None ≡ texture_number_in t → IsRefused old (a_number ∷ []) (Expected Number t.line)
 no_texture_number old new t next none =
     let is : is_number t ≡ false = no_number_if t (judge (texture_if (is_large 6 t.text)) (count_of 6 t.text)) none in
     stops_token old new a_number t (Expected Number t.line) next (rw is refl)

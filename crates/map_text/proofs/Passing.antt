@@ -15,7 +15,7 @@ use Rattle.map_text.specs.declared.read_fault.ReadFault.{ReadFault}
 use Rattle.map_text.specs.declared.read_fault.ReadFault.TheVariants.{EndsEarly}
 use Rattle.map_text.specs.Grammar.{Symbol, symbol_of, bracket, word, quote}
 use Rattle.map_text.specs.Refusals.{Awaited, an_entity, an_item, a_value, first_in_brush, a_face, mark, a_number, a_material, a_texture, Step, fits, refused, step, settled, stopped_by, go_on, is_bracket}
-use Rattle.map_text.specs.Reading.{ReaderState, reads_on, first_after, all_are, Passes, IsStopped, IsNext, is_inner}
+use Rattle.map_text.specs.Reading.{ReaderState, reads_on, first_after, all_are, Passes, IsRefused, IsNext, is_inner}
 
 -- ---- one token
 
@@ -51,8 +51,8 @@ goes_on old new place t more left last first fit rest =
     ∙ ap (λ f. go_on new.last f (more ++ rest) new.left.tokens new.left.fault) (sym first)
 
 pub stops_here : (old : ReaderState) (place : Awaited) (t : TokenValue) (left : TokenList) (why : ReadFault) → old.left ≡ put_first t left
-    → step old.first place t ≡ refused why → IsStopped old (place ∷ []) why
-stops_here old place t left why first refuses = λ _ rest.
+    → step old.first place t ≡ refused why → IsRefused old (place ∷ []) why
+stops_here old place t left why first refuses = λ rest.
     ap (λ l. go_on old.last old.first (place ∷ rest) l.tokens l.fault) first
     ∙ step_on old.last old.first place rest t left.tokens left.fault (refused why) refuses
 
@@ -75,7 +75,7 @@ passes_token old new place t more s next other fit is = record {
   one_format = all_are-none new.first;
 }
 
-pub stops_token : (old new : ReaderState) (place : Awaited) (t : TokenValue) (why : ReadFault) → IsNext old t new → step old.first place t ≡ refused why → IsStopped old (place ∷ []) why
+pub stops_token : (old new : ReaderState) (place : Awaited) (t : TokenValue) (why : ReadFault) → IsNext old t new → step old.first place t ≡ refused why → IsRefused old (place ∷ []) why
 stops_token old new place t why next refuses = stops_here old place t new.left why next.left refuses
 
 -- ---- what a token is
@@ -139,16 +139,16 @@ joined a b c p q r s t f g x y = record {
 at_once : (old : ReaderState) (places : List Awaited) (fault : Option LexFault) → old.left.tokens ≡ [] → old.left.fault ≡ fault → reads_on old places ≡ go_on old.last old.first places [] fault
 at_once old places fault none is = ap (λ l. go_on old.last old.first places l old.left.fault) none ∙ ap (go_on old.last old.first places []) is
 
-pub ends_inside : (old : ReaderState) (place : Awaited) → old.left.tokens ≡ [] → old.left.fault ≡ None → is_inner place ≡ true → IsStopped old (place ∷ []) (EndsEarly old.last)
+pub ends_inside : (old : ReaderState) (place : Awaited) → old.left.tokens ≡ [] → old.left.fault ≡ None → is_inner place ≡ true → IsRefused old (place ∷ []) (EndsEarly old.last)
 ends_inside old an_entity none sound inner = absurd (false≢true inner)
-ends_inside old an_item none sound inner = λ _ rest. at_once old (an_item ∷ rest) None none sound
-ends_inside old a_value none sound inner = λ _ rest. at_once old (a_value ∷ rest) None none sound
-ends_inside old first_in_brush none sound inner = λ _ rest. at_once old (first_in_brush ∷ rest) None none sound
-ends_inside old a_face none sound inner = λ _ rest. at_once old (a_face ∷ rest) None none sound
-ends_inside old (mark byte what) none sound inner = λ _ rest. at_once old (mark byte what ∷ rest) None none sound
-ends_inside old a_number none sound inner = λ _ rest. at_once old (a_number ∷ rest) None none sound
-ends_inside old a_material none sound inner = λ _ rest. at_once old (a_material ∷ rest) None none sound
-ends_inside old a_texture none sound inner = λ _ rest. at_once old (a_texture ∷ rest) None none sound
+ends_inside old an_item none sound inner = λ rest. at_once old (an_item ∷ rest) None none sound
+ends_inside old a_value none sound inner = λ rest. at_once old (a_value ∷ rest) None none sound
+ends_inside old first_in_brush none sound inner = λ rest. at_once old (first_in_brush ∷ rest) None none sound
+ends_inside old a_face none sound inner = λ rest. at_once old (a_face ∷ rest) None none sound
+ends_inside old (mark byte what) none sound inner = λ rest. at_once old (mark byte what ∷ rest) None none sound
+ends_inside old a_number none sound inner = λ rest. at_once old (a_number ∷ rest) None none sound
+ends_inside old a_material none sound inner = λ rest. at_once old (a_material ∷ rest) None none sound
+ends_inside old a_texture none sound inner = λ rest. at_once old (a_texture ∷ rest) None none sound
 
 -- ---- the exit of a `?`
 

@@ -12,7 +12,7 @@ use Rattle.map_text.specs.Grammar.{AxisText, standard, valve, bracket, symbol_of
 use Rattle.map_text.specs.Fits.{is_format}
 use Rattle.map_text.specs.Meaning.{is_large, is_axis_large, axis_of, tex_of}
 use Rattle.map_text.specs.Refusals.{a_number, a_texture, mark, rest_of_axis, rest_of_texture, is_bracket, is_number, texture_format, texture_step, settled, step, fits, refused}
-use Rattle.map_text.specs.Reading.{ReaderState, Passes, IsRead, IsNext, IsStopped, allows, first_after, all_are}
+use Rattle.map_text.specs.Reading.{ReaderState, Passes, IsRead, IsNext, IsRefused, allows, first_after, all_are}
 use Rattle.map_text.specs.Judged.{judge, texture_if, texture_number_in, axis_from, turn_from, standard_from, valve_from}
 use Rattle.map_text.specs.Parts.{number_part, axis_part, turn_part, Turn, turn_places, texture_part, with_format}
 use Rattle.map_text.proofs.Passing.{joined, next_part, all_appended, goes_on, stops_token, bracket_of}
@@ -163,7 +163,7 @@ texture_begins old now new t format next allowed is kind =
     }
 
 pub texture_stops : (old now : ReaderState) (t : TokenValue) (format : Format) → IsNext old t now → allows now.first format ≡ false → texture_format t ≡ Some format
-    → IsStopped old (a_texture ∷ []) (MixedFormat t.line)
+    → IsRefused old (a_texture ∷ []) (MixedFormat t.line)
 texture_stops old now t format next other kind =
     stops_token old now a_texture t (MixedFormat t.line) next (texture_mixes old.first t format kind (ap (λ f. allows f format) (sym next.first) ∙ other))
 
@@ -193,12 +193,12 @@ offset_begins old now new t number next allowed is h found =
     }
 
 pub offset_stops : (old now : ReaderState) (t : TokenValue) (number : Result ℤ Reason) → IsNext old t now → allows now.first Standard ≡ false → is_bracket 91 t ≡ false → Some number ≡ texture_number_in t
-    → IsStopped old (a_texture ∷ []) (MixedFormat t.line)
+    → IsRefused old (a_texture ∷ []) (MixedFormat t.line)
 offset_stops old now t number next other h found =
     let n : (is_number t ≡ true) × (number ≡ judge (texture_if (is_large 6 t.text)) (count_of 6 t.text)) = number_if t number (judge (texture_if (is_large 6 t.text)) (count_of 6 t.text)) found in
     texture_stops old now t Standard next other (standard_kind t h n.0)
 
-pub no_texture_begins : (old now : ReaderState) (t : TokenValue) → IsNext old t now → is_bracket 91 t ≡ false → None ≡ texture_number_in t → IsStopped old (a_texture ∷ []) (Expected Number t.line)
+pub no_texture_begins : (old now : ReaderState) (t : TokenValue) → IsNext old t now → is_bracket 91 t ≡ false → None ≡ texture_number_in t → IsRefused old (a_texture ∷ []) (Expected Number t.line)
 no_texture_begins old now t next h none =
     let n : is_number t ≡ false = no_number_if t (judge (texture_if (is_large 6 t.text)) (count_of 6 t.text)) none in
     let kind : texture_format t ≡ None = rw (h, n) refl in

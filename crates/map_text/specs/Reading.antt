@@ -53,9 +53,13 @@ pub record IsRead {T V : Type 0} (part : Part T V) (before after : List Awaited)
   pub passes : Passes old new before after (part.symbols text) (part.formats text)
   pub meaning : value ≡ part.meaning text
 
+-- Where these places are awaited, the text is refused so.
+abbrev pub IsRefused : ReaderState → List Awaited → ReadFault → Type 0
+IsRefused old places why = (rest : List Awaited) → reads_on old (places ++ rest) ≡ stopped_by why
+
 -- Where these places are awaited, the text is refused so, unless memory was wanting.
 abbrev pub IsStopped : ReaderState → List Awaited → ReadFault → Type 0
-IsStopped old places why = why ≢ Memory → (rest : List Awaited) → reads_on old (places ++ rest) ≡ stopped_by why
+IsStopped old places why = why ≢ Memory → IsRefused old places why
 
 -- The text may not end where this is awaited.
 abbrev pub is_inner : Awaited → Bool

@@ -3,7 +3,7 @@
 ghost use Rattle.std.specs.Prelude.{◌≡◌, [], ◌∷◌, IfOk, IfErr};
 ghost use Rattle.map_text.specs.Judged.{with_face};
 ghost use Rattle.map_text.specs.Parts.{BeginsFace, brush_part, face_place};
-ghost use Rattle.map_text.specs.Reading.{IsRead, IsStopped};
+ghost use Rattle.map_text.specs.Reading.{IsRead, IsRefused, IsStopped};
 ghost use Rattle.map_text.specs.Refusals.{first_in_brush, names_block};
 ghost use Rattle.map_lex.specs.TokenList.{value_of};
 
@@ -50,7 +50,7 @@ fn names_block(token: &Token<'_>) -> bool
 // Reads the bracket of a face, or that of the brush's end.
 fn begins_face(reader: &mut Reader<'_>, is_first: bool) -> Result<bool, ReadFault>
     ensures read { IfOk result (BeginsFace reader.old reader.new is_first) }
-    ensures fault { IfErr result (IsStopped reader.old (face_place is_first ∷ [])) }
+    ensures fault { IfErr result (IsRefused reader.old (face_place is_first ∷ [])) }
 {
     let token = reader.token()?;
     if is_first && names_block(&token) {

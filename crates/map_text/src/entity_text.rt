@@ -4,7 +4,7 @@ ghost use Rattle.std.specs.Prelude.{◌≡◌, [], ◌∷◌, IfOk, IfErr, OnOk}
 ghost use Rattle.indexmap.specs.IndexMap.{insert_entry};
 ghost use Rattle.map_text.specs.Items.{BeginsItem};
 ghost use Rattle.map_text.specs.Parts.{entity_part, value_part, bytes_of_pairs, same_bytes};
-ghost use Rattle.map_text.specs.Reading.{IsRead, IsStopped};
+ghost use Rattle.map_text.specs.Reading.{IsRead, IsRefused, IsStopped};
 ghost use Rattle.map_text.specs.Refusals.{a_value, an_item};
 
 use crate::brush_text::read_brush;
@@ -31,7 +31,7 @@ type Properties<'a> = IndexMap<&'a [u8], &'a [u8]>;
 // Reads the first token of an item, or the bracket of the entity's end.
 fn begins_item<'a>(reader: &mut Reader<'a>) -> Result<Option<ItemStart<'a>>, ReadFault>
     ensures read { IfOk result (BeginsItem reader.old reader.new) }
-    ensures fault { IfErr result (IsStopped reader.old (an_item ∷ [])) }
+    ensures fault { IfErr result (IsRefused reader.old (an_item ∷ [])) }
 {
     let token = reader.token()?;
     if token.quoted {
@@ -52,7 +52,7 @@ fn begins_item<'a>(reader: &mut Reader<'a>) -> Result<Option<ItemStart<'a>>, Rea
 // Reads the value behind a key.
 fn read_value<'a>(reader: &mut Reader<'a>) -> Result<&'a [u8], ReadFault>
     ensures read { IfOk result (λ text. IsRead value_part (a_value ∷ []) [] reader.old reader.new text.now) }
-    ensures fault { IfErr result (IsStopped reader.old (a_value ∷ [])) }
+    ensures fault { IfErr result (IsRefused reader.old (a_value ∷ [])) }
 {
     let token = reader.token()?;
     if !token.quoted {

@@ -6,7 +6,7 @@ ghost use Rattle.map_text.specs.Fits.{is_material};
 ghost use Rattle.map_text.specs.Grammar.{symbol_of};
 ghost use Rattle.map_text.specs.Judged.{face_from};
 ghost use Rattle.map_text.specs.Parts.{face_part, material_part};
-ghost use Rattle.map_text.specs.Reading.{IsRead, IsStopped};
+ghost use Rattle.map_text.specs.Reading.{IsRead, IsRefused, IsStopped};
 ghost use Rattle.map_text.specs.Refusals.{a_material, rest_of_face};
 
 use crate::document::Reason;
@@ -59,7 +59,7 @@ fn is_material(token: &Token<'_>) -> bool
 // Reads a material.
 fn read_material<'a>(reader: &mut Reader<'a>) -> Result<&'a [u8], ReadFault>
     ensures read { IfOk result (λ text. IsRead material_part (a_material ∷ []) [] reader.old reader.new text.now) }
-    ensures fault { IfErr result (IsStopped reader.old (a_material ∷ [])) }
+    ensures fault { IfErr result (IsRefused reader.old (a_material ∷ [])) }
 {
     let token = reader.token()?;
     if !is_material(&token) {

@@ -4,7 +4,7 @@ ghost use Rattle.std.specs.Prelude.{◌≡◌, ◌^◌, ◌<◌, ◌≤◌, ◌-
 ghost use Rattle.std.specs.Option.{option_map_or};
 ghost use Rattle.map_text.specs.Items.{BeginsEntity};
 ghost use Rattle.map_text.specs.Meaning.{format_by_version, value_of_key};
-ghost use Rattle.map_text.specs.Reading.{IsStopped};
+ghost use Rattle.map_text.specs.Reading.{IsRefused};
 ghost use Rattle.map_text.specs.Reads.{IsRefusedAs, Reads, part_count};
 ghost use Rattle.map_text.specs.Refusals.{an_entity, first_refusal};
 
@@ -53,7 +53,7 @@ fn format_or(first: Option<Format>, entities: &[RawEntity]) -> Format
 // Reads the bracket of an entity, or finds the end of the text.
 fn begins_entity(reader: &mut Reader<'_>) -> Result<bool, ReadFault>
     ensures read { IfOk result (BeginsEntity reader.old reader.new) }
-    ensures fault { IfErr result (IsStopped reader.old (an_entity ∷ [])) }
+    ensures fault { IfErr result (IsRefused reader.old (an_entity ∷ [])) }
 {
     match reader.next_token()? {
         None => Ok(false),

@@ -4,7 +4,7 @@ ghost use Rattle.std.specs.Prelude.{◌≡◌, [], ◌∷◌, IfOk, IfErr};
 ghost use Rattle.map_lex.specs.TokenList.{value_of};
 ghost use Rattle.map_text.specs.Judged.{coordinate_in, texture_number_in};
 ghost use Rattle.map_text.specs.Parts.{coordinate_part, number_part};
-ghost use Rattle.map_text.specs.Reading.{IsRead, IsStopped};
+ghost use Rattle.map_text.specs.Reading.{IsRead, IsRefused};
 ghost use Rattle.map_text.specs.Refusals.{a_number};
 
 use crate::document::Reason;
@@ -49,7 +49,7 @@ pub(crate) fn texture_number_in(token: &Token<'_>) -> Option<Judged<Micro>>
 /// Reads a coordinate of a point.
 pub(crate) fn read_coordinate(reader: &mut Reader<'_>) -> Result<Judged<i32>, ReadFault>
     ensures read { IfOk result (IsRead coordinate_part (a_number ∷ []) [] reader.old reader.new) }
-    ensures fault { IfErr result (IsStopped reader.old (a_number ∷ [])) }
+    ensures fault { IfErr result (IsRefused reader.old (a_number ∷ [])) }
 {
     let token = reader.token()?;
     coordinate_in(&token).ok_or(ReadFault::Expected(What::Number, token.line))
@@ -58,7 +58,7 @@ pub(crate) fn read_coordinate(reader: &mut Reader<'_>) -> Result<Judged<i32>, Re
 /// Reads a number of a texture.
 pub(crate) fn read_texture_number(reader: &mut Reader<'_>) -> Result<Judged<Micro>, ReadFault>
     ensures read { IfOk result (IsRead number_part (a_number ∷ []) [] reader.old reader.new) }
-    ensures fault { IfErr result (IsStopped reader.old (a_number ∷ [])) }
+    ensures fault { IfErr result (IsRefused reader.old (a_number ∷ [])) }
 {
     let token = reader.token()?;
     texture_number_in(&token).ok_or(ReadFault::Expected(What::Number, token.line))

@@ -3,7 +3,7 @@
 ghost use Rattle.std.specs.Prelude.{◌≡◌, [], ◌∷◌, ◌++◌, IfOk, IfErr};
 ghost use Rattle.map_text.specs.Judged.{point_from, points_from};
 ghost use Rattle.map_text.specs.Parts.{point_part, points_part, points_places};
-ghost use Rattle.map_text.specs.Reading.{IsRead, IsStopped};
+ghost use Rattle.map_text.specs.Reading.{IsRead, IsRefused};
 ghost use Rattle.map_text.specs.Refusals.{rest_of_point};
 
 use crate::judged::{Judged, both};
@@ -29,7 +29,7 @@ fn points_from(p0: Judged<Point>, p1: Judged<Point>, p2: Judged<Point>) -> Judge
 // Reads a point behind its first bracket.
 fn read_point(reader: &mut Reader<'_>) -> Result<Judged<Point>, ReadFault>
     ensures read { IfOk result (IsRead point_part rest_of_point [] reader.old reader.new) }
-    ensures fault { IfErr result (IsStopped reader.old rest_of_point) }
+    ensures fault { IfErr result (IsRefused reader.old rest_of_point) }
 {
     let x = read_coordinate(reader)?;
     let y = read_coordinate(reader)?;
@@ -41,7 +41,7 @@ fn read_point(reader: &mut Reader<'_>) -> Result<Judged<Point>, ReadFault>
 /// Reads the three points of a face behind the bracket of the first one.
 pub(crate) fn read_points(reader: &mut Reader<'_>) -> Result<Judged<[Point; 3]>, ReadFault>
     ensures read { IfOk result (IsRead points_part points_places [] reader.old reader.new) }
-    ensures fault { IfErr result (IsStopped reader.old points_places) }
+    ensures fault { IfErr result (IsRefused reader.old points_places) }
 {
     let p0 = read_point(reader)?;
     reader.expect(b'(', What::Point)?;

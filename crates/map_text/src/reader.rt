@@ -6,7 +6,7 @@ ghost use Rattle.map_lex.specs.TokenList.{token_list, value_of};
 ghost use Rattle.map_text.specs.Grammar.{bracket};
 ghost use Rattle.map_text.specs.Fits.{ends_with_backslash};
 ghost use Rattle.map_text.specs.Refusals.{Awaited, is_bracket, last_line, mark};
-ghost use Rattle.map_text.specs.Reading.{IsNext, IsStopped, IsFound, Passes, allows, is_inner};
+ghost use Rattle.map_text.specs.Reading.{IsFound, IsNext, IsRefused, Passes, allows, is_inner};
 
 use crate::read_fault::{ReadFault, What};
 use map_lex::{Token, Tokens};
@@ -24,7 +24,7 @@ pub(crate) struct Reader<'a> {
 impl<'a> Model for Reader<'a> {
     ghost use Rattle.std.specs.Prelude.{◌^◌, ◌<◌, ◌-◌, length};
     ghost use Rattle.map_text.specs.Refusals.{last_line};
-    ghost use Rattle.map_text.specs.Reading.{ReaderState};
+    ghost use Rattle.map_text.specs.Reading.{IsRefused, ReaderState};
 
     ghost Value = { ReaderState };
 
@@ -65,7 +65,7 @@ impl<'a> Reader<'a> {
     /// The next token, where one may be missing.
     pub(crate) fn next_token(&mut self) -> Result<Option<Token<'a>>, ReadFault>
         ensures token { IfOk result (λ found. IsFound self.old found self.new) }
-        ensures fault { IfErr result (λ why. (places : List Awaited) (place : Awaited) → IsStopped self.old (place ∷ places) why) }
+        ensures fault { IfErr result (λ why. (places : List Awaited) (place : Awaited) → IsRefused self.old (place ∷ places) why) }
     {
         Ok(self.tokens.next()?)
     }
@@ -73,7 +73,7 @@ impl<'a> Reader<'a> {
     /// The next token, inside an entity.
     pub(crate) fn token(&mut self) -> Result<Token<'a>, ReadFault>
         ensures token { IfOk result (λ token. IsNext self.old (value_of token) self.new) }
-        ensures fault { IfErr result (λ why. (place : Awaited) → IsTrue (is_inner place) → IsStopped self.old (place ∷ []) why) }
+        ensures fault { IfErr result (λ why. (place : Awaited) → IsTrue (is_inner place) → IsRefused self.old (place ∷ []) why) }
     {
         match self.next_token()? {
             Some(token) => Ok(token),
@@ -84,7 +84,7 @@ impl<'a> Reader<'a> {
     /// The next token, which has to be this bracket.
     pub(crate) fn expect(&mut self, byte: u8, what: What) -> Result<(), ReadFault>
         ensures read { OnOk result (Passes self.old self.new (mark byte what ∷ []) [] (bracket byte ∷ []) []) }
-        ensures fault { IfErr result (IsStopped self.old (mark byte what ∷ [])) }
+        ensures fault { IfErr result (IsRefused self.old (mark byte what ∷ [])) }
     {
         let token = self.token()?;
         if !is_bracket(&token, byte) {

@@ -3,7 +3,7 @@
 ghost use Rattle.std.specs.Prelude.{◌≡◌, [], ◌∷◌, IfOk, IfErr};
 ghost use Rattle.map_text.specs.Judged.{axis_from, turn_from, standard_from, valve_from};
 ghost use Rattle.map_text.specs.Parts.{BeginsTexture, axis_part, turn_part, turn_places, texture_part};
-ghost use Rattle.map_text.specs.Reading.{IsRead, IsStopped};
+ghost use Rattle.map_text.specs.Reading.{IsRead, IsRefused};
 ghost use Rattle.map_text.specs.Refusals.{a_texture, rest_of_axis};
 
 use crate::judged::Judged;
@@ -78,7 +78,7 @@ fn valve_from(u: Judged<AxisFields>, v: Judged<AxisFields>, turn: Judged<TurnFie
 // Reads an axis behind its first bracket.
 fn read_axis(reader: &mut Reader<'_>) -> Result<Judged<AxisFields>, ReadFault>
     ensures read { IfOk result (IsRead axis_part rest_of_axis [] reader.old reader.new) }
-    ensures fault { IfErr result (IsStopped reader.old rest_of_axis) }
+    ensures fault { IfErr result (IsRefused reader.old rest_of_axis) }
 {
     let x = read_texture_number(reader)?;
     let y = read_texture_number(reader)?;
@@ -91,7 +91,7 @@ fn read_axis(reader: &mut Reader<'_>) -> Result<Judged<AxisFields>, ReadFault>
 // Reads the rotation and the scales.
 fn read_turn(reader: &mut Reader<'_>) -> Result<Judged<TurnFields>, ReadFault>
     ensures read { IfOk result (IsRead turn_part turn_places [] reader.old reader.new) }
-    ensures fault { IfErr result (IsStopped reader.old turn_places) }
+    ensures fault { IfErr result (IsRefused reader.old turn_places) }
 {
     let rotation = read_texture_number(reader)?;
     let u_scale = read_texture_number(reader)?;
@@ -102,7 +102,7 @@ fn read_turn(reader: &mut Reader<'_>) -> Result<Judged<TurnFields>, ReadFault>
 // Reads the first token of a texture, which tells its format.
 fn read_start(reader: &mut Reader<'_>) -> Result<TextureStart, ReadFault>
     ensures read { IfOk result (BeginsTexture reader.old reader.new) }
-    ensures fault { IfErr result (IsStopped reader.old (a_texture ∷ [])) }
+    ensures fault { IfErr result (IsRefused reader.old (a_texture ∷ [])) }
 {
     let token = reader.token()?;
     if is_bracket(&token, b'[') {
@@ -119,7 +119,7 @@ fn read_start(reader: &mut Reader<'_>) -> Result<TextureStart, ReadFault>
 /// Reads the texture of a face, in the format of the first face.
 pub(crate) fn read_texture(reader: &mut Reader<'_>) -> Result<Judged<Tex>, ReadFault>
     ensures read { IfOk result (IsRead texture_part (a_texture ∷ []) [] reader.old reader.new) }
-    ensures fault { IfErr result (IsStopped reader.old (a_texture ∷ [])) }
+    ensures fault { IfErr result (IsRefused reader.old (a_texture ∷ [])) }
 {
     match read_start(reader)? {
         TextureStart::Axes => {

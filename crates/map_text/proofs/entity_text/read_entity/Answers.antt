@@ -29,13 +29,13 @@ items-smaller-in_ok-put-in-Key c = property_shorter c.in-Key.key (rw (c.in-Some.
 pub returns-in_err-item-clause-fault : goal.returns-in_err-item-clause-fault
 returns-in_err-item-clause-fault c =
     passed_on (IsStopped c.args.reader.now (an_item ∷ [])) c.from_residual.result c.in_err-item.field-0.0 c.from_residual.ensures.1
-    (λ ne rest. c.items.invariant.passes.goes rest ∙ c.in_err-item.ensures.fault ne rest)
+    (λ ne rest. c.items.invariant.passes.goes rest ∙ c.in_err-item.ensures.fault rest)
 
 pub returns-in_err-value-in-Key-clause-fault : goal.returns-in_err-value-in-Key-clause-fault
 returns-in_err-value-in-Key-clause-fault c =
     let begins = rw (c.in-Some.is, c.in-Key.is) at c.in_ok-item.ensures.read in
     passed_on (IsStopped c.args.reader.now (an_item ∷ [])) c.from_residual-in_err-value-in-Key.result c.in_err-value-in-Key.field-0.0 c.from_residual-in_err-value-in-Key.ensures.1
-    (λ ne rest. c.items.invariant.passes.goes rest ∙ begins.1.goes rest ∙ c.in_err-value-in-Key.ensures.fault ne (an_item ∷ rest))
+    (λ ne rest. c.items.invariant.passes.goes rest ∙ begins.1.goes rest ∙ c.in_err-value-in-Key.ensures.fault (an_item ∷ rest))
 
 pub returns-in_err-read_brush-in-Brush-clause-fault : goal.returns-in_err-read_brush-in-Brush-clause-fault
 returns-in_err-read_brush-in-Brush-clause-fault c =

@@ -9,7 +9,7 @@ use Rattle.map_text.proofs.map_text_reader.read_map.Goals as goal
 pub returns-in_err-begins_entity-clause-fault : goal.returns-in_err-begins_entity-clause-fault
 returns-in_err-begins_entity-clause-fault c =
     passed_on (λ fault. IsRefusedAs c.args.text.now fault) c.from_residual.result c.in_err-begins_entity.field-0.0 c.from_residual.ensures.1
-    (is_refused c.args.text.now c.in_err-begins_entity.field-0.0 (λ ne rest. c.entities.invariant.passes.goes rest ∙ c.in_err-begins_entity.ensures.fault ne rest))
+    (is_refused c.args.text.now c.in_err-begins_entity.field-0.0 (λ ne rest. c.entities.invariant.passes.goes rest ∙ c.in_err-begins_entity.ensures.fault rest))
 
 pub returns-in_err-read_entity-clause-fault : goal.returns-in_err-read_entity-clause-fault
 returns-in_err-read_entity-clause-fault c =

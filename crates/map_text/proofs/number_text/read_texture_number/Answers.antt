@@ -2,14 +2,14 @@ use Rattle.std.proofs.Common.{[], ◌∷◌, ◌∙◌, refl}
 use Rattle.map_lex.specs.TokenList.{value_of}
 use Rattle.map_text.specs.Parts.{number_part}
 use Rattle.map_text.specs.Refusals.{a_number}
-use Rattle.map_text.specs.Reading.{IsRead, IsStopped}
+use Rattle.map_text.specs.Reading.{IsRead, IsRefused}
 use Rattle.map_text.proofs.Passing.{passed_on, ok_of_found, err_of_found}
 use Rattle.map_text.proofs.NumberTexts.{no_texture_number, number_read}
 use Rattle.map_text.proofs.number_text.read_texture_number.Goals as goal
 
 pub returns-in_err-token-clause-fault : goal.returns-in_err-token-clause-fault
 returns-in_err-token-clause-fault c =
-    passed_on (IsStopped c.args.reader.now (a_number ∷ [])) c.from_residual.result c.in_err-token.field-0.0 c.from_residual.ensures.1 (c.in_err-token.ensures.fault a_number refl)
+    passed_on (IsRefused c.args.reader.now (a_number ∷ [])) c.from_residual.result c.in_err-token.field-0.0 c.from_residual.ensures.1 (c.in_err-token.ensures.fault a_number refl)
 
 pub returns-clause-read : goal.returns-clause-read
 returns-clause-read c =
@@ -18,5 +18,5 @@ returns-clause-read c =
 
 pub returns-clause-fault : goal.returns-clause-fault
 returns-clause-fault c =
-    err_of_found (IsStopped c.args.reader.now (a_number ∷ [])) c.texture_number_in.result c.ok_or.result _ c.ok_or.ensures.value
+    err_of_found (IsRefused c.args.reader.now (a_number ∷ [])) c.texture_number_in.result c.ok_or.result _ c.ok_or.ensures.value
     (λ e. no_texture_number c.args.reader.now c.token.new.self (value_of c.in_ok-token.token) c.in_ok-token.ensures.token (e ∙ c.texture_number_in.ensures))

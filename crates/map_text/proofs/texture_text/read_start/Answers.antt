@@ -1,9 +1,9 @@
 use Rattle.std.proofs.Common.{[], ◌∷◌, refl}
 use Rattle.map_text.specs.Refusals.{a_texture}
-use Rattle.map_text.specs.Reading.{IsStopped}
+use Rattle.map_text.specs.Reading.{IsRefused}
 use Rattle.map_text.proofs.Passing.{passed_on}
 use Rattle.map_text.proofs.texture_text.read_start.Goals as goal
 
 pub returns-in_err-token-clause-fault : goal.returns-in_err-token-clause-fault
 returns-in_err-token-clause-fault c =
-    passed_on (IsStopped c.args.reader.now (a_texture ∷ [])) c.from_residual.result c.in_err-token.field-0.0 c.from_residual.ensures.1 (c.in_err-token.ensures.fault a_texture refl)
+    passed_on (IsRefused c.args.reader.now (a_texture ∷ [])) c.from_residual.result c.in_err-token.field-0.0 c.from_residual.ensures.1 (c.in_err-token.ensures.fault a_texture refl)
