@@ -20,6 +20,12 @@ mod planes;
 #[cfg(test)]
 mod slots;
 #[cfg(test)]
+mod solid_shapes;
+#[cfg(test)]
+mod solid_troughs;
+#[cfg(test)]
+mod solids;
+#[cfg(test)]
 mod table;
 #[cfg(test)]
 mod tokens;
