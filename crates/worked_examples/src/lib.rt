@@ -12,6 +12,16 @@ mod first_path;
 #[cfg(test)]
 mod grids;
 #[cfg(test)]
+mod map_check;
+#[cfg(test)]
+mod map_damage;
+#[cfg(test)]
+mod map_grammar;
+#[cfg(test)]
+mod map_numbers;
+#[cfg(test)]
+mod map_texts;
+#[cfg(test)]
 mod numbers;
 #[cfg(test)]
 mod plain_form;
