@@ -13,35 +13,43 @@ use std::alloc::Global;
 use std::process::Abort;
 use uv_lock::Format;
 
-/// A text of its own.
+/// A whole text.
 pub const WHOLE: &str = "@";
 
-/// An entity, and then one line of a brush, as they are written: what stands in an entity is on line 3 and what stands
-/// in a brush on line 5.
+/// What stands in an entity, from line 3 on.
 pub const IN_ENTITY: &str = "// entity 0\n{\n@}\n";
 
+/// The faces of a brush, from line 5 on.
 pub const IN_BRUSH: &str = "// entity 0\n{\n// brush 0\n{\n@\n}\n}\n";
 
+/// The points of a face in line 5.
 pub const POINTS: &str = "// entity 0\n{\n// brush 0\n{\n@ a 0 0 0 1 1\n}\n}\n";
 
+/// The coordinates of a point in line 5.
 pub const FIRST_POINT: &str =
     "// entity 0\n{\n// brush 0\n{\n( @ ) ( 0 1 0 ) ( 1 0 0 ) a 0 0 0 1 1\n}\n}\n";
 
+/// A coordinate in line 5.
 pub const COORDINATE: &str =
     "// entity 0\n{\n// brush 0\n{\n( 0 @ 0 ) ( 0 1 0 ) ( 1 0 0 ) a 0 0 0 1 1\n}\n}\n";
 
+/// The material and the texture of a face in line 5.
 pub const BEHIND_POINTS: &str =
     "// entity 0\n{\n// brush 0\n{\n( 0 0 0 ) ( 0 1 0 ) ( 1 0 0 ) @\n}\n}\n";
 
+/// The material of a Standard face in line 5.
 pub const STANDARD_MATERIAL: &str =
     "// entity 0\n{\n// brush 0\n{\n( 0 0 0 ) ( 0 1 0 ) ( 1 0 0 ) @ 0 0 0 1 1\n}\n}\n";
 
+/// The material of a Valve face in line 5.
 pub const VALVE_MATERIAL: &str = "// entity 0\n{\n// brush 0\n{\n\
     ( 0 0 0 ) ( 0 1 0 ) ( 1 0 0 ) @ [ 1 0 0 0 ] [ 0 1 0 0 ] 0 1 1\n}\n}\n";
 
+/// The second offset of a Standard face in line 5.
 pub const STANDARD_NUMBER: &str =
     "// entity 0\n{\n// brush 0\n{\n( 0 0 0 ) ( 0 1 0 ) ( 1 0 0 ) a 0 @ 0 1 1\n}\n}\n";
 
+/// A number of the first axis of a Valve face in line 5.
 pub const VALVE_NUMBER: &str = "// entity 0\n{\n// brush 0\n{\n\
     ( 0 0 0 ) ( 0 1 0 ) ( 1 0 0 ) a [ 1 @ 0 0 ] [ 0 1 0 0 ] 0 1 1\n}\n}\n";
 
@@ -53,7 +61,7 @@ fn placed(alloc: Global, around: &str, part: &[u8]) -> Option<Vec<u8>> {
     Some(text)
 }
 
-/// The text around with the bytes of a field in their place.
+/// The text around with the bytes of a field in the place of its `@`.
 pub fn text_of(rt: &(impl Abort + AllocGlobal), case: &str, around: &str, place: usize) -> Vec<u8> {
     let part = bytes(rt, case, word(rt, case, place));
     placed(rt.alloc(), around, &part).expect(rt, case)

@@ -41,6 +41,7 @@ const ITEM: &str = r#"{ x } | Expected(Item, 1)
 { }} | Expected(Item, 1)
 { {} } | Expected(Item, 1)
 { {{ } } } | Expected(Item, 1)
+{ {( 0 0 0 ) ( 0 1 0 ) ( 1 0 0 ) a 0 0 0 1 1 } } | Expected(Item, 1)
 { }// a | Expected(Item, 1)
 {%0A"a" "b"%0Ac "d"%0A} | Expected(Item, 3)
 { "a" "b" ) } | Expected(Item, 1)
@@ -211,7 +212,7 @@ nan | Expected(Number, 5)
 %0A"1" | Expected(Number, 6)
 00000000000000000000000000000000000000000000000000000000000000001 | Expected(Number, 5)
 -1111111111111111111111111111111111111111111111111111111111111111 | Expected(Number, 5)
-0.00000000000000000000000000000000000000000000000000000000000001e | Expected(Number, 5)
+0.0000000000000000000000000000000000000000000000000000000000000e1 | Expected(Number, 5)
 "#;
 
 // What stands behind the points of a face.
@@ -290,7 +291,7 @@ fn an_entity_begins_with_a_brace(rt: HostRuntime) {
 
 #[test]
 fn an_entity_holds_properties_and_brushes(rt: HostRuntime) {
-    for case in cases(&rt, ITEM, 21, 2) {
+    for case in cases(&rt, ITEM, 22, 2) {
         check_fault(&rt, case, WHOLE);
     }
 }
