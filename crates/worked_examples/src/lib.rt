@@ -20,6 +20,8 @@ mod map_grammar;
 #[cfg(test)]
 mod map_numbers;
 #[cfg(test)]
+mod map_of_a_box;
+#[cfg(test)]
 mod map_texts;
 #[cfg(test)]
 mod numbers;
