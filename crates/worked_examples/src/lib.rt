@@ -2,6 +2,8 @@
 #![tactic(auto)]
 
 #[cfg(test)]
+mod bad_brushes;
+#[cfg(test)]
 mod base_axes;
 #[cfg(test)]
 mod devices;
@@ -15,6 +17,8 @@ mod grids;
 mod map_check;
 #[cfg(test)]
 mod map_damage;
+#[cfg(test)]
+mod map_faces;
 #[cfg(test)]
 mod map_grammar;
 #[cfg(test)]
