@@ -2,13 +2,9 @@
 //!
 //! A case gives a part of a text, which stands in the place of `@` in the text around it.
 
-ghost use Rattle.std.specs.Prelude.{◌≡◌};
-ghost use Rattle.std.specs.List.{list_all};
-ghost use Rattle.map_write.specs.Savable.{all_good, is_good};
-
 use super::table::{bytes, same, shows, word};
-use map_text::{MapDoc, RawBrush, RawEntity, ReadFault, read_map};
-use map_write::write_map;
+use map_text::{MapDoc, RawBrush, ReadFault, read_map};
+use map_write::{all_good, write_map};
 use std::alloc::Global;
 use std::process::Abort;
 use uv_lock::Format;
@@ -85,27 +81,6 @@ pub fn check_outcome(rt: &(impl Abort + AllocGlobal), case: &str, text: &[u8], w
 pub fn check_fault(rt: &(impl Abort + AllocGlobal), case: &str, around: &str) {
     let text = text_of(rt, case, around, 0);
     check_outcome(rt, case, &text, word(rt, case, 1));
-}
-
-fn is_good(brush: &RawBrush) -> bool
-    ensures { result ≡ is_good brush.now }
-{
-    matches!(brush, RawBrush::Faces(_))
-}
-
-fn has_good_brushes(entity: &RawEntity) -> bool
-    ensures { result ≡ list_all is_good entity.now.brushes }
-{
-    entity.brushes.list().iter().all(|brush| is_good(brush))
-}
-
-fn all_good(doc: &MapDoc) -> bool
-    ensures { result ≡ all_good doc.now }
-{
-    doc.entities
-        .list()
-        .iter()
-        .all(|entity| has_good_brushes(entity))
 }
 
 /// Compares what the document of a text is written as, and gives its format.
