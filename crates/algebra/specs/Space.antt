@@ -1,5 +1,5 @@
 -- Space in whole numbers: vectors, points, half-spaces.
-use Rattle.std.specs.Prelude.{◌≡◌, ℤ, pos, neg_ℤ, ◌+ℤ◌, ◌-ℤ◌, ◌*ℤ◌}
+use Rattle.std.specs.Prelude.{◌≡◌, ℤ, pos, neg_ℤ, ◌+ℤ◌, ◌-ℤ◌, ◌*ℤ◌, ◌<ℤ◌, ◌≤ℤ◌}
 
 -- A vector, or a point with whole coordinates.
 pub record Vector : Type 0 where
@@ -43,6 +43,11 @@ pub record HalfSpace : Type 0 where
 -- On which side of the plane a point lies: 0 on it, below 0 behind it, above 0 in front of it.
 unfoldable pub side : HalfSpace → Homogeneous → ℤ
 side h p = dot h.normal p.vector -ℤ h.distance *ℤ p.weight
+
+-- Each point is in both half-spaces or in neither.
+pub record SameHalfSpace (f g : HalfSpace) : Type 0 where
+  pub onto : (p : Homogeneous) → pos 0 <ℤ p.weight → side f p ≤ℤ pos 0 → side g p ≤ℤ pos 0
+  pub back : (p : Homogeneous) → pos 0 <ℤ p.weight → side g p ≤ℤ pos 0 → side f p ≤ℤ pos 0
 
 -- The half-space in front of the same plane.
 unfoldable pub reverse : HalfSpace → HalfSpace

@@ -10,6 +10,7 @@ use Rattle.algebra.proofs.Expr.{read}
 use Rattle.algebra.proofs.Ring.{ring}
 use Rattle.algebra.proofs.Orders.{positive_of_product, positive_product}
 use Rattle.algebra.specs.Space.{Homogeneous}
+use Rattle.exact_geom.specs.Limits.{coordinate_limit}
 use Rattle.exact_geom.specs.Machine.{IsMultiple, IsSignedDivisor}
 use Rattle.exact_geom.specs.Vertices.{homogeneous, IsBounded, IsReducedVertex}
 
@@ -150,7 +151,7 @@ positive_weight d w q e h = ⊎_elim
     let l : pos 0 <ℤ q = positive_of_product (neg_ℤ d) (omega (arith, ints)) (omega (arith, ints)) in omega (arith, ints))
     (positive_product d w h)
 
-below : (m n b : ℕ) → m ≤ n → n < b → m < b
+below : (m n b : ℕ) → m ≤ n → n ≤ b → m ≤ b
 below m n b h k = omega arith
 
 pub reduced_vertex : (p q : Homogeneous) (d : ℤ) → IsBounded p → IsSignedDivisor p d → Quotients p d q → IsReducedVertex q
@@ -173,7 +174,7 @@ reduced_vertex p q d b s k =
     }
 
 -- ---- what the machine's divisions give
-divided : (x d : ℤ) → FitsSigned w128 d → unsigned_abs d ∣ unsigned_abs x → 0 < unsigned_abs d → unsigned_abs x < 273000000000000000000000000000
+divided : (x d : ℤ) → FitsSigned w128 d → unsigned_abs d ∣ unsigned_abs x → 0 < unsigned_abs d → unsigned_abs x ≤ coordinate_limit
     → to_z w128 (of_z w128 (int_div (to_z w128 (of_z w128 x)) (to_z w128 (of_z w128 d)))) ≡ int_div x d
 divided x d f h k l = quotient_kept x d (fits_signed_from_abs w128 x (omega arith)) f h k (omega arith)
 

@@ -4,6 +4,7 @@ use Rattle.std.specs.Int.{w128}
 use Rattle.std.proofs.lemmas.Int.{to_z-of_z, fits_signed_from_abs}
 use Rattle.std.specs.Ordering.{int_eq}
 use Rattle.std.proofs.lemmas.Bool.Decides.{Decides-eqb, Decides-int_eq, same_from_decides}
+use Rattle.exact_geom.specs.Limits.{coordinate_limit, cross_limit, dist_limit, normal_limit}
 use mir.Syntax.{Width}
 use mir.Val.{hbits}
 use Rattle.exact_geom.proofs.Sizes.{size-mul, size-add, size-sub, size_minor}
@@ -59,7 +60,7 @@ pub less_fits : {w : Width} {a b x y : ℤ} {m n : ℕ} → Exactly w a x m → 
 less_fits {w} {a} {b} {x} {y} {m} {n} f g k = fit w (a -ℤ b) (x -ℤ y) (m + n) (two (λ s t. s -ℤ t) f.is g.is) (size-sub x y m n f.size g.size) k
 
 -- a 2x2 determinant that a call gave for machine numbers
-pub minor_is : (a b c d r : ℤ) → unsigned_abs a ≤ 151519232 → unsigned_abs b ≤ 151519232 → unsigned_abs c ≤ 151519232 → unsigned_abs d ≤ 151519232
+pub minor_is : (a b c d r : ℤ) → unsigned_abs a ≤ normal_limit → unsigned_abs b ≤ normal_limit → unsigned_abs c ≤ normal_limit → unsigned_abs d ≤ normal_limit
     → r ≡ to_z w64 (of_z w64 a) *ℤ to_z w64 (of_z w64 d) -ℤ to_z w64 (of_z w64 b) *ℤ to_z w64 (of_z w64 c)
     → to_z w64 (of_z w64 r) ≡ a *ℤ d -ℤ b *ℤ c
 minor_is a b c d r ha hb hc hd e =
@@ -68,26 +69,26 @@ minor_is a b c d r ha hb hc hd e =
     let pc = (var w64 c hc tt).is in
     let pd = (var w64 d hd tt).is in
     let f : r ≡ a *ℤ d -ℤ b *ℤ c = e ∙ two (λ s t. s -ℤ t) (two (λ s t. s *ℤ t) pa pd) (two (λ s t. s *ℤ t) pb pc) in
-    (call w64 r (a *ℤ d -ℤ b *ℤ c) f (size_minor a b c d 151519232 151519232 ha hb hc hd) tt).is
+    (call w64 r (a *ℤ d -ℤ b *ℤ c) f (size_minor a b c d normal_limit normal_limit ha hb hc hd) tt).is
 
 -- a sum of three products that a call gave for machine numbers
-pub products_is : (a x b y c z r : ℤ) → unsigned_abs a ≤ 1978235092992 → unsigned_abs x ≤ 45916155331739648 → unsigned_abs b ≤ 1978235092992 → unsigned_abs y ≤ 45916155331739648 → unsigned_abs c ≤ 1978235092992 → unsigned_abs z ≤ 45916155331739648
+pub products_is : (a x b y c z r : ℤ) → unsigned_abs a ≤ dist_limit → unsigned_abs x ≤ cross_limit → unsigned_abs b ≤ dist_limit → unsigned_abs y ≤ cross_limit → unsigned_abs c ≤ dist_limit → unsigned_abs z ≤ cross_limit
     → r ≡ to_z w64 (of_z w64 a) *ℤ to_z w64 (of_z w64 x) +ℤ to_z w64 (of_z w64 b) *ℤ to_z w64 (of_z w64 y) +ℤ to_z w64 (of_z w64 c) *ℤ to_z w64 (of_z w64 z)
-    → Exactly w128 (to_z w128 (of_z w128 r)) (a *ℤ x +ℤ b *ℤ y +ℤ c *ℤ z) 272498849437557297511240040448
+    → Exactly w128 (to_z w128 (of_z w128 r)) (a *ℤ x +ℤ b *ℤ y +ℤ c *ℤ z) coordinate_limit
 products_is a x b y c z r ha hx hb hy hc hz e =
-    let times_is = λ (m n : ℤ) (p : unsigned_abs m ≤ 1978235092992) (q : unsigned_abs n ≤ 45916155331739648). two (λ s t. s *ℤ t) (var w64 m p tt).is (var w64 n q tt).is in
+    let times_is = λ (m n : ℤ) (p : unsigned_abs m ≤ dist_limit) (q : unsigned_abs n ≤ cross_limit). two (λ s t. s *ℤ t) (var w64 m p tt).is (var w64 n q tt).is in
     let f : r ≡ a *ℤ x +ℤ b *ℤ y +ℤ c *ℤ z = e ∙ two (λ s t. s +ℤ t) (two (λ s t. s +ℤ t) (times_is a x ha hx) (times_is b y hb hy)) (times_is c z hc hz) in
-    let one = size-mul a x 1978235092992 45916155331739648 ha hx in
-    let other = size-mul b y 1978235092992 45916155331739648 hb hy in
-    let last = size-mul c z 1978235092992 45916155331739648 hc hz in
+    let one = size-mul a x dist_limit cross_limit ha hx in
+    let other = size-mul b y dist_limit cross_limit hb hy in
+    let last = size-mul c z dist_limit cross_limit hc hz in
     call w128 r (a *ℤ x +ℤ b *ℤ y +ℤ c *ℤ z) f
     (size-add (a *ℤ x +ℤ b *ℤ y) (c *ℤ z) 181665899625038198340826693632 90832949812519099170413346816
     (size-add (a *ℤ x) (b *ℤ y) 90832949812519099170413346816 90832949812519099170413346816 one other) last) tt
 
 -- the same sum where the factors x, y and z are known to be others
-pub coordinate_is : (a b c : ℤ) {x y z x' y' z' r : ℤ} → unsigned_abs a ≤ 1978235092992 → unsigned_abs b ≤ 1978235092992 → unsigned_abs c ≤ 1978235092992 → unsigned_abs x' ≤ 45916155331739648 → unsigned_abs y' ≤ 45916155331739648 → unsigned_abs z' ≤ 45916155331739648
+pub coordinate_is : (a b c : ℤ) {x y z x' y' z' r : ℤ} → unsigned_abs a ≤ dist_limit → unsigned_abs b ≤ dist_limit → unsigned_abs c ≤ dist_limit → unsigned_abs x' ≤ cross_limit → unsigned_abs y' ≤ cross_limit → unsigned_abs z' ≤ cross_limit
     → x ≡ x' → y ≡ y' → z ≡ z' → r ≡ to_z w64 (of_z w64 a) *ℤ to_z w64 (of_z w64 x) +ℤ to_z w64 (of_z w64 b) *ℤ to_z w64 (of_z w64 y) +ℤ to_z w64 (of_z w64 c) *ℤ to_z w64 (of_z w64 z)
-    → Exactly w128 (to_z w128 (of_z w128 r)) (a *ℤ x' +ℤ b *ℤ y' +ℤ c *ℤ z') 272498849437557297511240040448
+    → Exactly w128 (to_z w128 (of_z w128 r)) (a *ℤ x' +ℤ b *ℤ y' +ℤ c *ℤ z') coordinate_limit
 coordinate_is a b c {x} {y} {z} {x'} {y'} {z'} {r} ha hb hc hx hy hz ex ey ez e =
     let k = λ (t : ℤ). to_z w64 (of_z w64 t) in
     products_is a x' b y' c z' r ha hx hb hy hc hz

@@ -1,3 +1,4 @@
+pub mod Cubes
 pub mod Division
 pub mod Exactly
 pub mod Meeting

@@ -9,6 +9,7 @@ use Rattle.algebra.proofs.Expr.{read}
 use Rattle.algebra.proofs.Ring.{ring}
 use Rattle.algebra.proofs.Identities.{through-swap}
 use Rattle.algebra.proofs.Orders.{squares_zero_3}
+use Rattle.exact_geom.specs.Limits.{difference_limit, dist_limit, normal_limit}
 use Rattle.exact_geom.specs.declared.point.Point.{Point}
 use Rattle.exact_geom.specs.declared.plane.PlaneFault.TheVariants.{PointRange, Flat}
 use Rattle.exact_geom.specs.Machine.{IsSmall, IsWithin}
@@ -52,16 +53,16 @@ pub is_plane : (t : ThreePoints) → GoodPoints t → IsPlane t
 is_plane t g = fit (is_in_range t.p0) (is_in_range t.p1) (is_in_range t.p2) (is_flat t) t g.first g.second g.third g.apart
 
 -- ---- the sizes of its half-space
-pub normal_size : (t : ThreePoints) → IsTrue (is_in_range t.p0) → IsTrue (is_in_range t.p1) → IsTrue (is_in_range t.p2) → IsWithin 151519232 (half_space t).normal
+pub normal_size : (t : ThreePoints) → IsTrue (is_in_range t.p0) → IsTrue (is_in_range t.p1) → IsTrue (is_in_range t.p2) → IsWithin normal_limit (half_space t).normal
 unfolding through
 normal_size t a b c =
-    IsWithin-cross (minus (vector t.p0) (vector t.p1)) (minus (vector t.p2) (vector t.p1)) 8704 8704
+    IsWithin-cross (minus (vector t.p0) (vector t.p1)) (minus (vector t.p2) (vector t.p1)) difference_limit difference_limit
     (IsWithin-minus (vector t.p0) (vector t.p1) 4352 4352 (in_range t.p0 a) (in_range t.p1 b))
     (IsWithin-minus (vector t.p2) (vector t.p1) 4352 4352 (in_range t.p2 c) (in_range t.p1 b))
 
-pub distance_size : (t : ThreePoints) → IsTrue (is_in_range t.p0) → IsTrue (is_in_range t.p1) → IsTrue (is_in_range t.p2) → unsigned_abs (half_space t).distance ≤ 1978235092992
+pub distance_size : (t : ThreePoints) → IsTrue (is_in_range t.p0) → IsTrue (is_in_range t.p1) → IsTrue (is_in_range t.p2) → unsigned_abs (half_space t).distance ≤ dist_limit
 unfolding through
-distance_size t a b c = size-dot (cross (minus (vector t.p0) (vector t.p1)) (minus (vector t.p2) (vector t.p1))) (vector t.p1) 151519232 4352 (normal_size t a b c) (in_range t.p1 b)
+distance_size t a b c = size-dot (cross (minus (vector t.p0) (vector t.p1)) (minus (vector t.p2) (vector t.p1))) (vector t.p1) normal_limit 4352 (normal_size t a b c) (in_range t.p1 b)
 
 -- ---- the zero vector
 three_zero : (a b c : ℤ) → (int_eq a (pos 0) && int_eq b (pos 0) && int_eq c (pos 0)) ≡ true → (a ≡ pos 0) × (b ≡ pos 0) × (c ≡ pos 0)

@@ -3,7 +3,7 @@ use Rattle.std.proofs.Common.{◌≡◌, [], ◌∷◌, ap, sym, ◌∙◌, arit
 use Rattle.std.specs.Prelude.{int_lt}
 use Rattle.std.proofs.lemmas.Int.{ints, by_lt_z}
 use Rattle.std.proofs.lemmas.Bool.Decides.{Decides-int_eq}
-use Rattle.algebra.specs.Space.{Vector, HalfSpace, Homogeneous, dot, cross, scale, plus, side, go}
+use Rattle.algebra.specs.Space.{Vector, HalfSpace, Homogeneous, dot, cross, scale, plus, side, go, SameHalfSpace}
 use Rattle.algebra.proofs.Expr.{read}
 use Rattle.algebra.proofs.Ring.{ring}
 use Rattle.algebra.proofs.Orders.{signs, le_by, lt_by, eq_by, eq_by_2, by_sign, positive-mul, cancel-le_left, cancel-eq_left, square_nonneg}
@@ -11,7 +11,6 @@ use Rattle.algebra.proofs.Identities.{with_vector, with_half_space, with_point, 
 use Rattle.algebra.proofs.Vectors.{IsZero, dot-zero_left, is_zero as zero_of_norm}
 use Rattle.algebra.proofs.Points.{weight-go}
 use Rattle.exact_geom.specs.Machine.{is_along, is_level, is_parallel}
-use Rattle.exact_geom.specs.Sides.{SameHalfSpace}
 use Rattle.exact_geom.proofs.PlaneLaws.{zero_vector, is_zero_of}
 
 -- the normals are parallel, don't point away from one another, and the distances are in their ratio

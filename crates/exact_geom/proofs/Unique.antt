@@ -1,5 +1,5 @@
 -- A point has one reduced form: two vertices at one place have the same numbers.
-use Rattle.std.proofs.Common.{◌≡◌, ℕ, zero, suc, ◌+◌, ◌-◌, ◌*◌, ◌<◌, ◌≤◌, ◌⊎◌, ⊎_elim, arith, refl, sym, ap, subst, ◌∙◌, one-mul, ℤ, pos, ◌*ℤ◌, ◌≤ℤ◌, ◌<ℤ◌, unsigned_abs}
+use Rattle.std.proofs.Common.{◌≡◌, ℕ, zero, suc, ◌+◌, ◌-◌, ◌*◌, ◌<◌, ◌≤◌, ◌⊎◌, ⊎_elim, arith, refl, sym, ap, subst, ◌∙◌, one-mul, ℤ, pos, ◌*ℤ◌, ◌<ℤ◌, unsigned_abs}
 use Rattle.std.specs.Int.{◌∣◌, IsGcd}
 use Rattle.std.proofs.lemmas.Int.{ints, unsigned_abs-mul}
 use Rattle.std.proofs.lemmas.Nat.Gcd.{IsGcd-from_zero, IsGcd-from_sub, IsGcd-swap, dvd_antisymm, dvd_trans}
@@ -8,7 +8,8 @@ use Rattle.std.proofs.Math.Nat.{dvd-mul_left, mul-le-mul_right}
 use Rattle.algebra.specs.Space.{Homogeneous, SamePoint}
 use Rattle.algebra.proofs.Identities.{vector_by}
 use Rattle.algebra.proofs.Orders.{cancel-eq_left}
-use Rattle.exact_geom.specs.Vertices.{IsReduced, IsReducedVertex}
+use Rattle.algebra.proofs.Points.{same_point_sym}
+use Rattle.exact_geom.specs.Vertices.{IsReduced}
 use Rattle.exact_geom.proofs.Meeting.{point_by}
 
 -- a greatest common divisor that grows with its numbers
@@ -76,20 +77,14 @@ weight_divides p q r s =
     (carries p.vector.x q.weight q.vector.x p.weight s.x) (carries p.vector.y q.weight q.vector.y p.weight s.y) (carries p.vector.z q.weight q.vector.z p.weight s.z)
     (carries p.weight q.weight q.weight p.weight (*ℤ_comm p.weight q.weight))
 
-positive_same : (a b : ℤ) → pos 1 ≤ℤ a → pos 1 ≤ℤ b → unsigned_abs a ≡ unsigned_abs b → a ≡ b
-positive_same a b h k e = omega (arith, ints)
+same_weight : (a b : ℤ) → pos 0 <ℤ a → pos 0 <ℤ b → unsigned_abs a ≡ unsigned_abs b → a ≡ b
+same_weight a b h k e = omega (arith, ints)
 
-above : (a : ℤ) → pos 1 ≤ℤ a → pos 0 <ℤ a
-above a h = omega (arith, ints)
+cancelled : (a b v w : ℤ) → pos 0 <ℤ v → v ≡ w → a *ℤ w ≡ b *ℤ v → a ≡ b
+cancelled a b v w h e f = cancel-eq_left v h (*ℤ_comm v a ∙ ap (λ t. a *ℤ t) e ∙ f ∙ *ℤ_comm b v)
 
-cancelled : (a b v w : ℤ) → pos 1 ≤ℤ v → v ≡ w → a *ℤ w ≡ b *ℤ v → a ≡ b
-cancelled a b v w h e f = cancel-eq_left v (above v h) (*ℤ_comm v a ∙ ap (λ t. a *ℤ t) e ∙ f ∙ *ℤ_comm b v)
-
-turned : (p q : Homogeneous) → SamePoint p q → SamePoint q p
-turned p q s = record { x = sym s.x; y = sym s.y; z = sym s.z }
-
-pub same_vertex : (p q : Homogeneous) → IsReducedVertex p → IsReducedVertex q → SamePoint p q → p ≡ q
-same_vertex p q r t s =
-    let e = positive_same p.weight q.weight r.positive t.positive (dvd_antisymm (weight_divides p q r.reduced s) (weight_divides q p t.reduced (turned p q s))) in
-    point_by (vector_by (cancelled p.vector.x q.vector.x p.weight q.weight r.positive e s.x) (cancelled p.vector.y q.vector.y p.weight q.weight r.positive e s.y)
-    (cancelled p.vector.z q.vector.z p.weight q.weight r.positive e s.z)) e
+pub one_form : (p q : Homogeneous) → pos 0 <ℤ p.weight → pos 0 <ℤ q.weight → IsReduced p → IsReduced q → SamePoint p q → p ≡ q
+one_form p q v w r t s =
+    let e = same_weight p.weight q.weight v w (dvd_antisymm (weight_divides p q r s) (weight_divides q p t (same_point_sym s))) in
+    point_by (vector_by (cancelled p.vector.x q.vector.x p.weight q.weight v e s.x) (cancelled p.vector.y q.vector.y p.weight q.weight v e s.y)
+    (cancelled p.vector.z q.vector.z p.weight q.weight v e s.z)) e

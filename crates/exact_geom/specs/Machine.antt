@@ -1,19 +1,20 @@
--- What numbers in machine words stand for, and their sizes.
+-- What numbers of 64 bits stand for, and their sizes.
 use Rattle.std.specs.Prelude.{◌≡◌, Bool, ◌&&◌, ℕ, ◌+◌, ◌*◌, ◌<◌, ◌≤◌, int_lt, ℤ, pos, ◌*ℤ◌, ◌<ℤ◌, unsigned_abs}
 use Rattle.std.specs.Int.{◌∣◌}
 use Rattle.std.specs.Ordering.{int_eq}
 use Rattle.algebra.specs.Space.{Vector, HalfSpace, Homogeneous, cross, dot}
-use Rattle.exact_geom.specs.declared.half_space.Direction.{Direction}
-use Rattle.exact_geom.specs.declared.half_space.Numbers.{Numbers}
+use Rattle.exact_geom.specs.Limits.{dist_limit, normal_limit}
+use Rattle.exact_geom.specs.declared.half_space.Vector64.{Vector64}
+use Rattle.exact_geom.specs.declared.half_space.HalfSpace64.{HalfSpace64}
 use Rattle.exact_geom.specs.Planes.{is_zero}
 
--- The vector of machine numbers.
-abbrev pub direction : Direction → Vector
-direction d = record { x = d.x; y = d.y; z = d.z }
+-- The vector of 64-bit numbers.
+abbrev pub vector64 : Vector64 → Vector
+vector64 d = record { x = d.x; y = d.y; z = d.z }
 
--- The half-space of machine numbers.
-abbrev pub numbers : Numbers → HalfSpace
-numbers h = record { normal = direction h.normal; distance = h.distance }
+-- The half-space of 64-bit numbers.
+abbrev pub half_space64 : HalfSpace64 → HalfSpace
+half_space64 h = record { normal = vector64 h.normal; distance = h.distance }
 
 -- Each coordinate is at most this in size.
 pub record IsWithin (bound : ℕ) (v : Vector) : Type 0 where
@@ -23,8 +24,8 @@ pub record IsWithin (bound : ℕ) (v : Vector) : Type 0 where
 
 -- The half-space is no larger than that of a plane.
 pub record IsSmall (h : HalfSpace) : Type 0 where
-  pub normal : IsWithin 151519232 h.normal
-  pub distance : unsigned_abs h.distance ≤ 1978235092992
+  pub normal : IsWithin normal_limit h.normal
+  pub distance : unsigned_abs h.distance ≤ dist_limit
 
 -- The point p has the numbers of q, each times one factor that isn't 0.
 pub record IsMultiple (p q : Homogeneous) : Type 0 where

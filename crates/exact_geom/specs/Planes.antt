@@ -3,6 +3,7 @@ use Rattle.std.specs.Prelude.{◌≡◌, ℕ, ℤ, pos, Bool, ◌&&◌, if◌the
 use Rattle.std.specs.Option.{option_map_or}
 use Rattle.std.specs.Ordering.{int_eq}
 use Rattle.algebra.specs.Space.{Vector, HalfSpace, through}
+use Rattle.algebra.specs.World.{point_limit}
 use Rattle.exact_geom.specs.declared.point.Point.{Point}
 use Rattle.exact_geom.specs.declared.plane.PlaneFault.{PlaneFault}
 use Rattle.exact_geom.specs.declared.plane.PlaneFault.TheVariants.{PointRange, Flat}
@@ -23,7 +24,7 @@ half_space t = through (vector t.p0) (vector t.p1) (vector t.p2)
 
 -- Each coordinate is at most 4352 in size.
 abbrev pub is_in_range : Point → Bool
-is_in_range p = nat_le (unsigned_abs p.x) 4352 && nat_le (unsigned_abs p.y) 4352 && nat_le (unsigned_abs p.z) 4352
+is_in_range p = nat_le (unsigned_abs p.x) point_limit && nat_le (unsigned_abs p.y) point_limit && nat_le (unsigned_abs p.z) point_limit
 
 -- The first of the three points that is out of range.
 abbrev pub first_out_of_range : ThreePoints → Option ℕ

@@ -1,12 +1,6 @@
--- The world cube, and rounding to a grid.
-use Rattle.std.specs.Prelude.{◌≡◌, ◌⊎◌, ℕ, ◌*◌, ◌≤◌, ℤ, pos, ◌-ℤ◌, ◌*ℤ◌, unsigned_abs}
+-- Rounding to a grid.
+use Rattle.std.specs.Prelude.{◌≡◌, ◌⊎◌, ℕ, ◌≤◌, ℤ, pos, ◌-ℤ◌, ◌*ℤ◌, unsigned_abs}
 use Rattle.algebra.specs.Space.{Vector, Homogeneous}
-
--- The point lies in the cube from -size to size: each coordinate is at most the size times the weight.
-pub record IsInCube (size : ℕ) (p : Homogeneous) : Type 0 where
-  pub x : unsigned_abs p.vector.x ≤ size * unsigned_abs p.weight
-  pub y : unsigned_abs p.vector.y ≤ size * unsigned_abs p.weight
-  pub z : unsigned_abs p.vector.z ≤ size * unsigned_abs p.weight
 
 -- The sizes of a grid, in map units.
 abbrev pub IsGrid : ℤ → Type 0

@@ -1,7 +1,8 @@
 -- Vertices: reduced homogeneous points.
-use Rattle.std.specs.Prelude.{◌≡◌, ℕ, ◌<◌, ℤ, pos, ◌≤ℤ◌, unsigned_abs}
+use Rattle.std.specs.Prelude.{◌≡◌, ℕ, ◌≤◌, ℤ, pos, ◌≤ℤ◌, unsigned_abs}
 use Rattle.std.specs.Int.{◌∣◌}
 use Rattle.algebra.specs.Space.{Homogeneous, side}
+use Rattle.exact_geom.specs.Limits.{coordinate_limit, weight_limit}
 use Rattle.exact_geom.specs.Planes.{ThreePoints, half_space}
 
 -- The point (x / w, y / w, z / w).
@@ -13,12 +14,12 @@ abbrev pub IsReduced : Homogeneous → Type 0
 IsReduced p =
     (d : ℕ) → d ∣ unsigned_abs p.vector.x → d ∣ unsigned_abs p.vector.y → d ∣ unsigned_abs p.vector.z → d ∣ unsigned_abs p.weight → d ≡ 1
 
--- The coordinates are below 2.73 * 10^29 in size and the weight is below 2.09 * 10^25.
+-- The coordinates are at most the coordinate limit in size, and the weight is at most the weight limit.
 pub record IsBounded (p : Homogeneous) : Type 0 where
-  pub x : unsigned_abs p.vector.x < 273000000000000000000000000000
-  pub y : unsigned_abs p.vector.y < 273000000000000000000000000000
-  pub z : unsigned_abs p.vector.z < 273000000000000000000000000000
-  pub weight : unsigned_abs p.weight < 20900000000000000000000000
+  pub x : unsigned_abs p.vector.x ≤ coordinate_limit
+  pub y : unsigned_abs p.vector.y ≤ coordinate_limit
+  pub z : unsigned_abs p.vector.z ≤ coordinate_limit
+  pub weight : unsigned_abs p.weight ≤ weight_limit
 
 -- What each vertex is.
 pub record IsReducedVertex (p : Homogeneous) : Type 0 where

@@ -2,11 +2,11 @@
 
 ghost use Rattle.std.specs.Prelude.{◌≡◌, ◌≢◌, ◌≤◌, pos, unsigned_abs};
 ghost use Rattle.algebra.specs.Space.{meet};
-ghost use Rattle.exact_geom.specs.Machine.{IsMultiple, IsSignedDivisor, IsSmall, numbers};
+ghost use Rattle.exact_geom.specs.Machine.{IsMultiple, IsSignedDivisor, IsSmall, half_space64};
 ghost use Rattle.exact_geom.specs.Vertices.{homogeneous, IsBounded, IsReducedVertex};
 
 use crate::divisor::gcd;
-use crate::half_space::{Numbers, sum_of_products};
+use crate::half_space::{HalfSpace64, sum_of_products};
 use crate::vertex::HVertex;
 
 /// The point that three planes share by Cramer's rule. Its weight may be below 0, and is 0 where the normals are dependent.
@@ -20,11 +20,11 @@ pub(crate) struct Crossing {
 
 impl Crossing {
     /// The common point of three half-spaces.
-    pub(crate) fn of(f: &Numbers, g: &Numbers, h: &Numbers) -> Crossing
-        requires f_size { IsSmall (numbers f.now) }
-        requires g_size { IsSmall (numbers g.now) }
-        requires h_size { IsSmall (numbers h.now) }
-        ensures point { homogeneous result.x result.y result.z result.w ≡ meet (numbers f.now) (numbers g.now) (numbers h.now) }
+    pub(crate) fn of(f: &HalfSpace64, g: &HalfSpace64, h: &HalfSpace64) -> Crossing
+        requires f_size { IsSmall (half_space64 f.now) }
+        requires g_size { IsSmall (half_space64 g.now) }
+        requires h_size { IsSmall (half_space64 h.now) }
+        ensures point { homogeneous result.x result.y result.z result.w ≡ meet (half_space64 f.now) (half_space64 g.now) (half_space64 h.now) }
         ensures bounded { IsBounded (homogeneous result.x result.y result.z result.w) }
     {
         let gh = g.normal.cross(&h.normal);

@@ -1,6 +1,6 @@
 //! Planes by three whole points, the vertices where three planes meet, and on which side of a plane a vertex lies.
 //! Every answer is exact: no number is rounded but by `round`, and no product or sum leaves its type.
-//! No call takes memory.
+//! No call takes memory. `side` and `HVertex::meet` count their calls; callers that count nothing take those of `uncounted`.
 #![tactic(auto)]
 
 mod axis;
@@ -14,6 +14,7 @@ mod rows;
 mod sides;
 mod sign;
 mod steps;
+pub mod uncounted;
 mod vertex;
 
 pub use axis::Axis;

@@ -2,10 +2,10 @@
 
 ghost use Rattle.std.specs.Prelude.{◌≡◌, [], ◌∷◌};
 ghost use Rattle.algebra.specs.Space.{reverse};
-ghost use Rattle.exact_geom.specs.Machine.{IsSmall, numbers};
+ghost use Rattle.exact_geom.specs.Machine.{IsSmall, half_space64};
 ghost use Rattle.exact_geom.specs.Planes.{half_space, plane_of, IsPlane, parts, ThreePoints};
 
-use crate::half_space::Numbers;
+use crate::half_space::HalfSpace64;
 use crate::point::Point;
 use std::marker::Model;
 
@@ -54,7 +54,7 @@ impl Plane {
         if !p2.is_in_range() {
             return Err(PlaneFault::PointRange(2));
         }
-        if Numbers::through(&p0, &p1, &p2).normal.is_zero() {
+        if HalfSpace64::through(&p0, &p1, &p2).normal.is_zero() {
             return Err(PlaneFault::Flat);
         }
         Ok(Plane { p0, p1, p2 })
@@ -75,7 +75,7 @@ impl Plane {
         ensures size { IsSmall (half_space self.now) }
         ensures plane { IsPlane self.now }
     {
-        let normal = self.numbers().normal;
+        let normal = self.half_space64().normal;
         [normal.x, normal.y, normal.z]
     }
 
@@ -85,16 +85,16 @@ impl Plane {
         ensures size { IsSmall (half_space self.now) }
         ensures plane { IsPlane self.now }
     {
-        self.numbers().distance
+        self.half_space64().distance
     }
 
-    // Its half-space in machine numbers.
-    pub(crate) fn numbers(&self) -> Numbers
-        ensures half_space { numbers result ≡ half_space self.now }
-        ensures size { IsSmall (numbers result) }
+    // Its half-space in numbers of 64 bits.
+    pub(crate) fn half_space64(&self) -> HalfSpace64
+        ensures half_space { half_space64 result ≡ half_space self.now }
+        ensures size { IsSmall (half_space64 result) }
         ensures plane { IsPlane self.now }
     {
-        Numbers::through(&self.p0, &self.p1, &self.p2)
+        HalfSpace64::through(&self.p0, &self.p1, &self.p2)
     }
 
     /// The same plane seen from the other side: the first and the last point are swapped.

@@ -1,9 +1,9 @@
 //! On which side of a plane a vertex lies, and which planes bound the same half-space.
 
 ghost use Rattle.std.specs.Prelude.{◌≡◌, ◌+◌, ◌↔◌, IsTrue};
-ghost use Rattle.algebra.specs.Space.{side};
+ghost use Rattle.algebra.specs.Space.{side, SameHalfSpace};
 ghost use Rattle.exact_geom.specs.Planes.{half_space};
-ghost use Rattle.exact_geom.specs.Sides.{sign_of, SameHalfSpace};
+ghost use Rattle.exact_geom.specs.Sides.{sign_of};
 
 use crate::plane::Plane;
 use crate::sign::Sign;
@@ -17,12 +17,12 @@ pub fn side<L: Ledger>(p: &Plane, v: &HVertex, steps: &mut Steps<L>) -> Sign
     ensures steps { steps.new ≡ steps.old + 1 }
 {
     steps.tick();
-    Sign::of(p.numbers().side_of(v.x, v.y, v.z, v.w))
+    Sign::of(p.half_space64().side_of(v.x, v.y, v.z, v.w))
 }
 
 /// Whether every point lies in both half-spaces or in neither.
 pub fn same_halfspace(a: &Plane, b: &Plane) -> bool
     ensures { IsTrue result ↔ SameHalfSpace (half_space a.now) (half_space b.now) }
 {
-    a.numbers().is_same(&b.numbers())
+    a.half_space64().is_same(&b.half_space64())
 }

@@ -34,6 +34,10 @@ impl Sign {
 pub fn det_sign(a: &Plane, b: &Plane, c: &Plane) -> Sign
     ensures { result ≡ sign_of (det (half_space a.now).normal (half_space b.now).normal (half_space c.now).normal) }
 {
-    let normals = [a.numbers().normal, b.numbers().normal, c.numbers().normal];
+    let normals = [
+        a.half_space64().normal,
+        b.half_space64().normal,
+        c.half_space64().normal,
+    ];
     Sign::of(normals[0].wide_dot(&normals[1].cross(&normals[2])))
 }

@@ -46,7 +46,7 @@ impl HVertex {
         ensures steps { steps.new ≡ steps.old + 1 }
     {
         steps.tick();
-        let crossing = Crossing::of(&a.numbers(), &b.numbers(), &c.numbers());
+        let crossing = Crossing::of(&a.half_space64(), &b.half_space64(), &c.half_space64());
         if crossing.w == 0 {
             None
         } else {

@@ -73,10 +73,12 @@ impl<T, Id: SlotId> Arena<T, Id> {
         self.slab.len()
     }
 
-    /// A number above the place of every value, for walking over the places or keeping a table of
-    /// them.
+    /// How many slots the arena has memory for, with a value or without one: at least `len()` and
+    /// `spare()` together, and above the place of every value. It is for walking over the places, or
+    /// for the length of a table by places.
     pub fn place_limit(&self) -> usize
-        ensures { (place : ℕ) → IsLive self.now place → place < result }
+        ensures room { live_count self.now + self.now.spare ≤ result }
+        ensures above { (place : ℕ) → IsLive self.now place → place < result }
     {
         self.slab.capacity()
     }
@@ -121,6 +123,26 @@ impl<T, Id: SlotId> Arena<T, Id> {
             return None;
         }
         self.slab.get_mut(place)
+    }
+}
+
+impl<T: Clone, Id> Arena<T, Id> {
+    ghost use Rattle.std.specs.Prelude.{IfOk};
+    ghost use Rattle.std.specs.List.{AllZip};
+    ghost use Rattle.slab.specs.Slab.{IsSlotClone};
+
+    /// The arena again, with a clone of each value under the same number, or an error for want of
+    /// memory.
+    pub fn copy(&self) -> Result<Arena<T, Id>, AllocError>
+        ensures clones { IfOk result (λ copy. AllZip (IsSlotClone T.is_clone) self.now.slots copy.slots) }
+    {
+        let slab = self.slab.clone()?;
+        let spare = room(&slab);
+        Ok(Arena {
+            slab,
+            spare,
+            ids: PhantomData,
+        })
     }
 }
 

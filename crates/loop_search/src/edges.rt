@@ -7,7 +7,8 @@ ghost use Rattle.vertex_laws.specs.Loop.{HasHalfEdge};
 ghost use Rattle.vertex_laws.specs.Vertex.{IsVertex};
 ghost use Rattle.loop_search.specs.Ahead.{AreOn, IsAhead, IsAheadBy, IsJoined};
 
-use crate::signs::{is_on, side_of};
+use crate::signs::is_on;
+use exact_geom::uncounted::side;
 use exact_geom::{HVertex, Plane, Sign, det_sign};
 
 // Whether both vertices are on the plane.
@@ -22,7 +23,7 @@ fn is_ahead_by(h: &Plane, f: &Plane, g: &Plane, a: &HVertex, b: &HVertex) -> boo
     ensures { IsTrue result
         ↔ IsAheadBy (half_space f.now) (half_space g.now) a.now b.now (half_space h.now) }
 {
-    is_on(h, b) && side_of(h, a) == Sign::Behind && det_sign(h, g, f) == Sign::Front
+    is_on(h, b) && side(h, a) == Sign::Behind && det_sign(h, g, f) == Sign::Front
 }
 
 // Whether some plane tells that b is ahead of a on the line of g and f.

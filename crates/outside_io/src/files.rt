@@ -20,8 +20,11 @@ pub struct FileVault<R: Files> {
 }
 
 impl<R: Files> FileVault<R> {
-    /// A vault over the files of this runtime.
-    pub fn new(rt: R) -> FileVault<R> {
+    /// A vault over the files of this runtime, which has had no fault yet.
+    pub fn new(rt: R) -> FileVault<R>
+        ensures fetch_faults { result.fetch_faults ≡ 0 }
+        ensures keep_faults { result.keep_faults ≡ 0 }
+    {
         FileVault {
             rt,
             fetch_faults: 0,

@@ -5,12 +5,13 @@ use Rattle.std.proofs.lemmas.Int.{ints, by_lt_z}
 use Rattle.std.proofs.lemmas.List.{map-append, length-append, length-map}
 use Rattle.algebra.specs.Members.{◌∈◌, here, there, Every}
 use Rattle.algebra.specs.Space.{Homogeneous, HalfSpace, SamePoint, through, dot, cross, minus}
+use Rattle.algebra.specs.World.{InCube, world, reach}
 use Rattle.algebra.proofs.Members.{each_of_none, each_of_more}
 use Rattle.algebra.proofs.Points.{same-in, same_point_sym}
 use Rattle.trim_laws.proofs.Bearing.{in_of_inside}
 use Rattle.exact_geom.specs.Planes.{ThreePoints, half_space, IsPlane}
 use Rattle.trim_laws.specs.Solid.{IsIn, Proper, Bounded}
-use Rattle.trim_laws.specs.Valid.{InCube, world, reach, HasInside, NoVolume, OutOfWorld, HasCause, no_volume, out_of_world, is_no_volume, is_out_of_world}
+use Rattle.trim_laws.specs.Valid.{HasInside, NoVolume, OutOfWorld, HasCause, no_volume, out_of_world, is_no_volume, is_out_of_world}
 use Rattle.vertex_laws.specs.Cube.{cube, boxed, VertexOutside}
 use Rattle.vertex_laws.proofs.Cube.{cube_bounded, leaves_cube, in_walls, of_walls}
 use Rattle.vertex_laws.proofs.Box.{box_volume, box_leaves}

@@ -3,19 +3,16 @@ use Rattle.std.proofs.Common.{◌≡◌, ◌↔◌, Bool, true, false, not, IsTr
 use Rattle.std.specs.List.{Any}
 use Rattle.std.proofs.lemmas.Bool.{false≢true}
 use Rattle.algebra.specs.Members.{◌∈◌}
-use Rattle.algebra.specs.Space.{HalfSpace}
+use Rattle.algebra.specs.Space.{HalfSpace, SameHalfSpace}
 use Rattle.exact_geom.specs.Planes.{ThreePoints, half_space}
-use Rattle.exact_geom.specs.Sides.{SameHalfSpace}
-use Rattle.trim_laws.specs.SameHalfSpace as trim
 use Rattle.trim_laws.specs.Trim.{Bears, IsKept}
-use Rattle.vertex_search.proofs.Deciding.{onto_trim, of_trim}
 use Rattle.vertex_search.proofs.Lists.{any_of_member, member_of_any, every_map, member_map}
 
-pub none_same : (P : List ThreePoints) (f : HalfSpace) → ¬ (Any (λ t. SameHalfSpace (half_space t) f) P) → (g : HalfSpace) → g ∈ map half_space P → ¬ (trim.SameHalfSpace g f)
-none_same P f none = every_map half_space (λ g. ¬ (trim.SameHalfSpace g f)) P (λ t m s. none (any_of_member (λ u. SameHalfSpace (half_space u) f) P t m (of_trim s)))
+pub none_same : (P : List ThreePoints) (f : HalfSpace) → ¬ (Any (λ t. SameHalfSpace (half_space t) f) P) → (g : HalfSpace) → g ∈ map half_space P → ¬ (SameHalfSpace g f)
+none_same P f none = every_map half_space (λ g. ¬ (SameHalfSpace g f)) P (λ t m s. none (any_of_member (λ u. SameHalfSpace (half_space u) f) P t m s))
 
-pub one_same : (P : List ThreePoints) (f : HalfSpace) → Any (λ t. SameHalfSpace (half_space t) f) P → ((g : HalfSpace) → g ∈ map half_space P → ¬ (trim.SameHalfSpace g f)) → ⊥
-one_same P f any none = let b = member_of_any (λ t. SameHalfSpace (half_space t) f) P any in none (half_space b.it) (member_map half_space P b.it b.among) (onto_trim b.has)
+pub one_same : (P : List ThreePoints) (f : HalfSpace) → Any (λ t. SameHalfSpace (half_space t) f) P → ((g : HalfSpace) → g ∈ map half_space P → ¬ (SameHalfSpace g f)) → ⊥
+one_same P f any none = let b = member_of_any (λ t. SameHalfSpace (half_space t) f) P any in none (half_space b.it) (member_map half_space P b.it b.among) b.has
 
 pub needed_then : (F : List HalfSpace) (P : List ThreePoints) (s t : ThreePoints) (same bears : Bool) → s ≡ t →
     IsTrue same ↔ Any (λ o. SameHalfSpace (half_space o) (half_space s)) P → same ≡ false → IsTrue bears ↔ Bears F (half_space t) →

@@ -2,11 +2,12 @@
 use Rattle.std.specs.Prelude.{◌≡◌, ℕ, ◌+◌, ◌^◌, ◌<◌, List, map, [], ◌∷◌, ◌↔◌}
 use Rattle.algebra.specs.Members.{Every}
 use Rattle.algebra.specs.Space.{Homogeneous, HalfSpace}
+use Rattle.algebra.specs.World.{InCube, world}
 use Rattle.exact_geom.specs.Planes.{ThreePoints, half_space}
 use Rattle.trim_laws.specs.Solid.{IsIn, Proper}
 use Rattle.trim_laws.specs.Trim.{TrimFaces}
 use Rattle.solid_laws.specs.Names.{HoldsVertices}
-use Rattle.trim_laws.specs.Valid.{InCube, world, HasInside, Valid, Cause, HasCause, no_volume, out_of_world, too_many_faces}
+use Rattle.trim_laws.specs.Valid.{HasInside, Valid, Cause, HasCause, no_volume, out_of_world, too_many_faces}
 use Rattle.solid_brush.specs.declared.side.Side.{Side}
 use Rattle.solid_brush.specs.declared.fault.BuildFault.{BuildFault}
 use Rattle.solid_brush.specs.declared.fault.BuildFault.TheVariants.{NoVolume, OutOfWorld, TooManyFaces, Memory}

@@ -3,8 +3,8 @@
 ghost use Rattle.std.specs.Prelude.{◌≡◌, ◌↔◌, ◌≤◌, ◌<◌, ◌++◌, map, take, length, Some, IfOk, IfErr, OnOk, IsTrue, slice_get};
 ghost use Rattle.exact_geom.specs.Planes.{half_space, ThreePoints};
 ghost use Rattle.trim_laws.specs.Solid.{Bounded};
-ghost use Rattle.exact_geom.specs.Sides.{SameHalfSpace};
 ghost use Rattle.std.specs.List.{Any};
+ghost use Rattle.algebra.specs.Space.{SameHalfSpace};
 ghost use Rattle.trim_laws.specs.Trim.{IsKept, TrimFaces};
 ghost use Rattle.solid_laws.specs.Names.{HoldsVertices};
 ghost use Rattle.solid_brush.specs.Sides.{bounds, half_spaces, planes_of, IsRefusedFor, IsWithinWorld};

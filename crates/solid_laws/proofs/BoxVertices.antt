@@ -3,9 +3,9 @@ use Rattle.std.proofs.Common.{◌≡◌, List, arith, ℤ, pos, ◌<ℤ◌, ◌�
 use Rattle.std.proofs.lemmas.Int.{ints}
 use Rattle.algebra.specs.Members.{◌∈◌, here, there, Every}
 use Rattle.algebra.specs.Space.{Homogeneous, HalfSpace, side}
+use Rattle.algebra.specs.World.{InCube, world, reach}
 use Rattle.algebra.proofs.Members.{each_of_more}
 use Rattle.trim_laws.specs.Solid.{IsIn}
-use Rattle.trim_laws.specs.Valid.{InCube, world, reach}
 use Rattle.trim_laws.proofs.Cause.{in_reach}
 use Rattle.vertex_laws.specs.Vertex.{IsVertex}
 use Rattle.vertex_laws.specs.Cube.{cube, boxed}

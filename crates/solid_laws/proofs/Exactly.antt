@@ -1,9 +1,8 @@
 -- Vertices decide exactly which faces bear, and whether some point is inside.
 use Rattle.std.proofs.Common.{List, inl, inr, ⊎_elim, pos, ◌<ℤ◌}
 use Rattle.algebra.specs.Members.{◌∈◌, here}
-use Rattle.algebra.specs.Space.{HalfSpace, dot}
+use Rattle.algebra.specs.Space.{HalfSpace, dot, SameHalfSpace}
 use Rattle.trim_laws.specs.Solid.{Bounded, Proper}
-use Rattle.trim_laws.specs.SameHalfSpace.{SameHalfSpace}
 use Rattle.trim_laws.specs.Trim.{Bears}
 use Rattle.trim_laws.proofs.SameHalfSpace.{same_or_not}
 use Rattle.trim_laws.proofs.Bearing.{bears_in, in_of_inside}

@@ -7,7 +7,7 @@ use Rattle.vertex_laws.specs.Loop.{IsLoop}
 use Rattle.solid_laws.specs.Names.{AreVertices}
 use Rattle.solid_laws.specs.FaceLoop.{LeastFirst, IsNumberedLoop}
 use Rattle.solid_laws.specs.Laws.{OneNumberedLoopLaw}
-use Rattle.solid_laws.proofs.Reduced.{one_form}
+use Rattle.exact_geom.proofs.Unique.{one_form}
 use Rattle.solid_laws.proofs.Numbered.{Picks, OneNumber, got_member, one_number, number_of, Head, head_of, same_numbers}
 use Rattle.solid_laws.proofs.Round.{Round, others, walk, next_closed}
 

@@ -1,21 +1,16 @@
--- Each point has a reduced form, and only one.
+-- Each point has a reduced form.
 use Rattle.std.proofs.Common.{◌≡◌, ℕ, zero, suc, ◌*◌, ◌<◌, ◌≤◌, [], ◌∷◌, arith, sym, ap, subst, ◌∙◌, mul_comm, one-mul, lit<, ℤ, pos, neg_ℤ, ◌*ℤ◌, ◌<ℤ◌, unsigned_abs}
 use Rattle.std.specs.Int.{◌∣◌}
 use Rattle.std.specs.Prelude.{int_div}
-use Rattle.std.proofs.lemmas.Int.{ints, unsigned_abs-mul}
-use Rattle.std.proofs.lemmas.Nat.Gcd.{dvd_antisymm, le_of_dvd}
-use Rattle.std.proofs.Math.IntN.{*ℤ_comm}
-use Rattle.std.proofs.Math.Nat.{eq-zero_of_zero-dvd, dvd-mul_left, mul-dvd-mul_right, dvd_of_mul-dvd-mul_right}
+use Rattle.std.proofs.lemmas.Int.{ints}
+use Rattle.std.proofs.lemmas.Nat.Gcd.{le_of_dvd}
+use Rattle.std.proofs.Math.Nat.{eq-zero_of_zero-dvd, mul-dvd-mul_right, dvd_of_mul-dvd-mul_right}
 use Rattle.algebra.specs.Space.{Homogeneous, SamePoint}
 use Rattle.algebra.proofs.Expr.{read}
 use Rattle.algebra.proofs.Ring.{ring}
-use Rattle.algebra.proofs.Identities.{vector_by}
-use Rattle.algebra.proofs.Orders.{cancel-eq_left, eq_by_2, positive_of_product}
-use Rattle.algebra.proofs.Points.{same_point_sym}
+use Rattle.algebra.proofs.Orders.{eq_by_2, positive_of_product}
 use Rattle.exact_geom.specs.Vertices.{homogeneous, IsReduced}
 use Rattle.exact_geom.proofs.Division.{DividesFour, divisor_positive, exact, size_of_quotient}
-use Rattle.exact_geom.proofs.Meeting.{point_by}
-use Rattle.exact_geom.proofs.Unique.{divides_factor}
 use Rattle.solid_laws.specs.Laws.{ReducedFormLaw}
 use Rattle.solid_laws.proofs.Divisor.{divisor_of_four}
 
@@ -79,27 +74,3 @@ reduced_form p w =
       reduced = part_reduced d.divisor p (quotients p d.divisor) m some d.divides;
       same = part_same d.divisor p (quotients p d.divisor) m;
     }
-
--- ---- two reduced points at one place
-carries : (a b c d : ℤ) → a *ℤ b ≡ c *ℤ d → unsigned_abs d ∣ (unsigned_abs a * unsigned_abs b)
-carries a b c d e =
-    let f : unsigned_abs c * unsigned_abs d ≡ unsigned_abs a * unsigned_abs b = sym (unsigned_abs-mul c d) ∙ ap unsigned_abs (sym e) ∙ unsigned_abs-mul a b in
-    subst (λ t. unsigned_abs d ∣ t) f (dvd-mul_left (unsigned_abs d) (unsigned_abs c))
-
-weight_divides : (p q : Homogeneous) → IsReduced p → SamePoint p q → unsigned_abs p.weight ∣ unsigned_abs q.weight
-weight_divides p q r s =
-    divides_factor (unsigned_abs p.vector.x) (unsigned_abs p.vector.y) (unsigned_abs p.vector.z) (unsigned_abs p.weight) (unsigned_abs p.weight) (unsigned_abs q.weight) r
-    (carries p.vector.x q.weight q.vector.x p.weight s.x) (carries p.vector.y q.weight q.vector.y p.weight s.y) (carries p.vector.z q.weight q.vector.z p.weight s.z)
-    (carries p.weight q.weight q.weight p.weight (*ℤ_comm p.weight q.weight))
-
-same_weight : (a b : ℤ) → pos 0 <ℤ a → pos 0 <ℤ b → unsigned_abs a ≡ unsigned_abs b → a ≡ b
-same_weight a b h k e = omega (arith, ints)
-
-cancelled : (a b v w : ℤ) → pos 0 <ℤ v → v ≡ w → a *ℤ w ≡ b *ℤ v → a ≡ b
-cancelled a b v w h e f = cancel-eq_left v h (*ℤ_comm v a ∙ ap (λ t. a *ℤ t) e ∙ f ∙ *ℤ_comm b v)
-
-pub one_form : (p q : Homogeneous) → pos 0 <ℤ p.weight → pos 0 <ℤ q.weight → IsReduced p → IsReduced q → SamePoint p q → p ≡ q
-one_form p q v w r t s =
-    let e = same_weight p.weight q.weight v w (dvd_antisymm (weight_divides p q r s) (weight_divides q p t (same_point_sym s))) in
-    point_by (vector_by (cancelled p.vector.x q.vector.x p.weight q.weight v e s.x) (cancelled p.vector.y q.vector.y p.weight q.weight v e s.y)
-    (cancelled p.vector.z q.vector.z p.weight q.weight v e s.z)) e

@@ -3,13 +3,13 @@ use Rattle.std.proofs.Common.{◌≡◌, refl, List, arith, ⊎_elim, ℤ, pos, 
 use Rattle.std.proofs.lemmas.Int.{ints}
 use Rattle.algebra.specs.Fractions.{NoneAhead}
 use Rattle.algebra.specs.Space.{Vector, Homogeneous, HalfSpace, dot, plus, scale, go}
+use Rattle.algebra.specs.World.{InCube, world}
 use Rattle.algebra.proofs.Orders.{by_sign, mul-le_left}
 use Rattle.algebra.proofs.Identities.{side-go}
 use Rattle.algebra.proofs.Vectors.{dot-zero_left}
 use Rattle.algebra.proofs.Points.{mix_plain, weight-go}
 use Rattle.algebra.proofs.Fractions.{greatest}
 use Rattle.trim_laws.specs.Solid.{IsIn}
-use Rattle.trim_laws.specs.Valid.{InCube, world}
 use Rattle.solid_laws.specs.Laws.{WorldBoundedLaw}
 
 -- One coordinate, x of a point of the world, moved by t times m.

@@ -1,12 +1,12 @@
 -- The laws that tell most.
 use Rattle.std.specs.Prelude.{◌≡◌, ◌≤◌, ◌↔◌, ◌⊎◌, ℕ, List, length, pos, ◌<ℤ◌}
 use Rattle.algebra.specs.Members.{◌∈◌}
-use Rattle.algebra.specs.Space.{Homogeneous, HalfSpace, SamePoint, side}
+use Rattle.algebra.specs.Space.{Homogeneous, HalfSpace, SamePoint, side, SameHalfSpace}
+use Rattle.algebra.specs.World.{InCube, world, reach}
 use Rattle.exact_geom.specs.Vertices.{IsReduced}
 use Rattle.trim_laws.specs.Solid.{IsIn, IsInside, Proper, Bounded}
-use Rattle.trim_laws.specs.SameHalfSpace.{SameHalfSpace}
 use Rattle.trim_laws.specs.Trim.{Bears, Trim}
-use Rattle.trim_laws.specs.Valid.{InCube, world, reach, HasInside, Valid, Cause, HasCause}
+use Rattle.trim_laws.specs.Valid.{HasInside, Valid, Cause, HasCause}
 use Rattle.vertex_laws.specs.Vertex.{IsVertex, VertexBehind, VertexOnBehind}
 use Rattle.vertex_laws.specs.Cube.{boxed}
 use Rattle.solid_laws.specs.Names.{Triple, IsName, AreVertices, HoldsVertices}

@@ -2,14 +2,13 @@
 use Rattle.std.proofs.Common.{◌≡◌, List, [], ◌∷◌, ◌∙◌, arith, ◌⊎◌, inl, inr, ⊎_elim, pos, neg_ℤ, ◌+ℤ◌, ◌*ℤ◌, ◌<ℤ◌}
 use Rattle.std.proofs.lemmas.Int.{ints, by_lt_z}
 use Rattle.algebra.specs.Members.{◌∈◌, here, there}
-use Rattle.algebra.specs.Space.{Homogeneous, HalfSpace, dot, cross, side, mix, go}
+use Rattle.algebra.specs.Space.{Homogeneous, HalfSpace, dot, cross, side, mix, go, SameHalfSpace}
 use Rattle.algebra.proofs.Orders.{nonneg_of_positive, positive-neg, by_sign}
 use Rattle.algebra.proofs.Identities.{side-mix, side-go, dot-cross_left}
 use Rattle.algebra.proofs.Vectors.{is_zero}
 use Rattle.algebra.proofs.Members.{each_of_more}
 use Rattle.algebra.proofs.Points.{mix-on, mix-behind_left, mix-behind_right, weight-mix, weight-go, between, between-on}
 use Rattle.trim_laws.specs.Solid.{IsIn, IsInside}
-use Rattle.trim_laws.specs.SameHalfSpace.{SameHalfSpace}
 use Rattle.trim_laws.specs.Trim.{Bears}
 use Rattle.trim_laws.specs.Laws.{BearingFace, BearingLaw}
 use Rattle.trim_laws.proofs.Steps.{small, below_le, step_flat, step_behind, step_short, square_and_1, toward_plain, neg_below}

@@ -2,7 +2,8 @@
 use Rattle.std.proofs.Common.{◌≡◌, refl, sym, ap, ◌∙◌, ℕ, List, length, arith, pos, ◌<ℤ◌}
 use Rattle.std.proofs.lemmas.Int.{ints}
 use Rattle.algebra.specs.Space.{Homogeneous, HalfSpace}
-use Rattle.trim_laws.specs.Valid.{InCube, world, reach, TooManyFaces, too_many_faces, is_no_volume, is_out_of_world, is_too_many}
+use Rattle.algebra.specs.World.{InCube, world, reach}
+use Rattle.trim_laws.specs.Valid.{TooManyFaces, too_many_faces, is_no_volume, is_out_of_world, is_too_many}
 use Rattle.trim_laws.specs.Laws.{OneCauseLaw, NoCauseLaw}
 use Rattle.trim_laws.proofs.Bearing.{in_of_inside}
 use Rattle.trim_laws.proofs.Once.{trim_unique}

@@ -2,14 +2,14 @@
 use Rattle.std.proofs.Common.{◌≡◌, [], ◌∷◌, ap, sym, ◌∙◌, arith, ◌⊎◌, inl, inr, ℤ, pos, negsuc, ◌+ℤ◌, ◌-ℤ◌, ◌*ℤ◌, neg_ℤ, ◌<ℤ◌, ◌≤ℤ◌}
 use Rattle.std.proofs.lemmas.Int.{ints, by_lt_z}
 use Rattle.algebra.specs.Members.{here}
-use Rattle.algebra.specs.Space.{Vector, Homogeneous, HalfSpace, dot, cross, scale, plus, side, go, way}
+use Rattle.algebra.specs.Space.{Vector, Homogeneous, HalfSpace, dot, cross, scale, plus, side, go, way, SameHalfSpace}
 use Rattle.algebra.proofs.Expr.{read}
 use Rattle.algebra.proofs.Ring.{ring}
 use Rattle.algebra.proofs.Orders.{signs, le_by, eq_by, eq_by_2, by_sign, positive-mul, positive-neg, cancel-le_left, cancel-eq_left, zero-mul}
 use Rattle.algebra.proofs.Identities.{with_vector, with_half_space, with_point, vector_by, dot_comm, dot-cross_left, binet_cauchy, lagrange, side-go, dot-way}
 use Rattle.algebra.proofs.Vectors.{IsZero, is_zero, dot-zero_left, norm_nonneg}
 use Rattle.algebra.proofs.Points.{weight-go}
-use Rattle.trim_laws.specs.SameHalfSpace.{SameHalfSpace, InProportion, SameByNumbers}
+use Rattle.trim_laws.specs.SameHalfSpace.{InProportion, SameByNumbers}
 use Rattle.trim_laws.specs.Laws.{SameLaw, SameByNumbersLaw}
 use Rattle.trim_laws.proofs.Steps.{small, step_short, step_front, step_flat, below_le, zero_le, neg_le}
 
@@ -70,7 +70,7 @@ scaled-side : (k : ℤ) (f : HalfSpace) (p : Homogeneous) → k *ℤ side f p �
 unfolding side dot scale
 scaled-side k f p = ring (k ∷ with_half_space f (with_point p [])) (search read depth 20) tt
 
-times_of_proportion : (f g : HalfSpace) → InProportion f g → Times f g
+pub times_of_proportion : (f g : HalfSpace) → InProportion f g → Times f g
 times_of_proportion f g r = record {
   a = r.a;
   b = r.b;

@@ -2,7 +2,7 @@
 use Rattle.std.proofs.Common.{◌≡◌, List, [], ◌∷◌, ap, ◌∙◌, arith, ◌⊎◌, inl, inr, ⊎_elim, ℤ, pos, ◌+ℤ◌, ◌-ℤ◌, ◌*ℤ◌, ◌<ℤ◌, ◌≤ℤ◌}
 use Rattle.std.proofs.lemmas.Int.{ints, by_lt_z}
 use Rattle.algebra.specs.Members.{◌∈◌, here, there}
-use Rattle.algebra.specs.Space.{Homogeneous, HalfSpace, dot, side, go, way}
+use Rattle.algebra.specs.Space.{Homogeneous, HalfSpace, dot, side, go, way, SameHalfSpace}
 use Rattle.algebra.specs.Ratio.{Hit}
 use Rattle.algebra.proofs.Expr.{read}
 use Rattle.algebra.proofs.Ring.{ring}
@@ -12,7 +12,6 @@ use Rattle.algebra.proofs.Points.{weight-go, way-across}
 use Rattle.algebra.proofs.Members.{each_of_more}
 use Rattle.algebra.proofs.Ratio.{ratio_test}
 use Rattle.trim_laws.specs.Solid.{IsInside, Proper}
-use Rattle.trim_laws.specs.SameHalfSpace.{SameHalfSpace}
 use Rattle.trim_laws.specs.Trim.{Bears, IsKept, Trims, ends, keeps, drops, Trim}
 use Rattle.trim_laws.specs.Laws.{TrimLaw, TrimBackLaw, TrimInsideLaw}
 use Rattle.trim_laws.proofs.Steps.{below_le}

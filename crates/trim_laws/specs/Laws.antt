@@ -1,11 +1,12 @@
 -- The laws that tell most.
 use Rattle.std.specs.Prelude.{◌≡◌, ◌≤◌, ◌⊎◌, ◌↔◌, List, map, length, pos, ◌<ℤ◌}
 use Rattle.algebra.specs.Members.{◌∈◌}
-use Rattle.algebra.specs.Space.{Homogeneous, HalfSpace, dot, side}
+use Rattle.algebra.specs.Space.{Homogeneous, HalfSpace, dot, side, SameHalfSpace}
+use Rattle.algebra.specs.World.{InCube, world}
 use Rattle.trim_laws.specs.Solid.{IsIn, IsInside, Proper}
-use Rattle.trim_laws.specs.SameHalfSpace.{SameHalfSpace, InProportion, SameByNumbers}
+use Rattle.trim_laws.specs.SameHalfSpace.{InProportion, SameByNumbers}
 use Rattle.trim_laws.specs.Trim.{Bears, Trim, TrimFaces}
-use Rattle.trim_laws.specs.Valid.{InCube, world, Valid, Cause, HasCause}
+use Rattle.trim_laws.specs.Valid.{Valid, Cause, HasCause}
 
 -- Two half-spaces are one exactly where one is a positive multiple of the other.
 abbrev pub SameLaw : Type 0

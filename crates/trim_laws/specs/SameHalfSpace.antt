@@ -1,11 +1,6 @@
--- Half-spaces that are one, whatever numbers they are given by.
-use Rattle.std.specs.Prelude.{◌≡◌, ℤ, pos, ◌*ℤ◌, ◌≤ℤ◌, ◌<ℤ◌}
-use Rattle.algebra.specs.Space.{Homogeneous, HalfSpace, dot, cross, scale, side}
-
--- Each point is in both half-spaces or in neither.
-pub record SameHalfSpace (f g : HalfSpace) : Type 0 where
-  pub onto : (p : Homogeneous) → pos 0 <ℤ p.weight → side f p ≤ℤ pos 0 → side g p ≤ℤ pos 0
-  pub back : (p : Homogeneous) → pos 0 <ℤ p.weight → side g p ≤ℤ pos 0 → side f p ≤ℤ pos 0
+-- When two half-spaces are one, told by their numbers.
+use Rattle.std.specs.Prelude.{◌≡◌, ℤ, pos, ◌*ℤ◌, ◌<ℤ◌}
+use Rattle.algebra.specs.Space.{HalfSpace, dot, cross, scale}
 
 -- The normal and the distance of one, times a factor, are those of the other, times another, and both factors are above 0.
 pub record InProportion (f g : HalfSpace) : Type 0 where

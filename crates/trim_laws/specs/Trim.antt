@@ -1,8 +1,7 @@
 -- The faces that a solid needs.
 use Rattle.std.specs.Prelude.{◌≡◌, List, [], ◌∷◌, map, pos, ◌<ℤ◌}
 use Rattle.algebra.specs.Members.{◌∈◌}
-use Rattle.algebra.specs.Space.{Homogeneous, HalfSpace, side}
-use Rattle.trim_laws.specs.SameHalfSpace.{SameHalfSpace}
+use Rattle.algebra.specs.Space.{Homogeneous, HalfSpace, side, SameHalfSpace}
 
 -- Some point on the plane of f is behind each face of another half-space.
 pub record Bears (F : List HalfSpace) (f : HalfSpace) : Type 0 where

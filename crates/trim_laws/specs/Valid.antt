@@ -1,25 +1,9 @@
 -- The lists that are brushes, and why another list is refused. Lengths are map units.
-use Rattle.std.specs.Prelude.{ℕ, ◌≤◌, ◌<◌, ◌≡◌, List, length, ℤ, pos, neg_ℤ, ◌*ℤ◌, ◌≤ℤ◌}
+use Rattle.std.specs.Prelude.{ℕ, ◌≤◌, ◌<◌, ◌≡◌, List, length, ℤ}
 use Rattle.algebra.specs.Space.{Homogeneous, HalfSpace}
+use Rattle.algebra.specs.World.{InCube, world, reach}
 use Rattle.trim_laws.specs.Solid.{IsIn, IsInside}
 use Rattle.trim_laws.specs.Trim.{Trim}
-
--- Each coordinate of the point is from -c to c.
-pub record InCube (c : ℤ) (p : Homogeneous) : Type 0 where
-  pub left : neg_ℤ (c *ℤ p.weight) ≤ℤ p.vector.x
-  pub right : p.vector.x ≤ℤ (c *ℤ p.weight)
-  pub near : neg_ℤ (c *ℤ p.weight) ≤ℤ p.vector.y
-  pub far : p.vector.y ≤ℤ (c *ℤ p.weight)
-  pub bottom : neg_ℤ (c *ℤ p.weight) ≤ℤ p.vector.z
-  pub top : p.vector.z ≤ℤ (c *ℤ p.weight)
-
--- Brushes lie in the cube from -4096 to 4096.
-abbrev pub world : ℤ
-world = pos 4096
-
--- The points that faces are given by lie in the cube from -4352 to 4352.
-abbrev pub reach : ℤ
-reach = pos 4352
 
 -- Some point is inside the solid.
 pub record HasInside (F : List HalfSpace) : Type 0 where

@@ -3,7 +3,8 @@ use Rattle.std.proofs.Common.{◌≡◌, List, [], ◌∷◌, arith, ◌⊎◌, 
 use Rattle.std.proofs.lemmas.Int.{ints, by_lt_z}
 use Rattle.algebra.specs.Members.{◌∈◌, here, there, Every}
 use Rattle.algebra.specs.Ratio.{Hit}
-use Rattle.algebra.specs.Space.{Homogeneous, HalfSpace, dot, side, mix, go, way}
+use Rattle.algebra.specs.Space.{Homogeneous, HalfSpace, dot, side, mix, go, way, SameHalfSpace}
+use Rattle.algebra.specs.World.{InCube, world, reach}
 use Rattle.algebra.proofs.Expr.{read}
 use Rattle.algebra.proofs.Ring.{ring}
 use Rattle.algebra.proofs.Orders.{signs, lt_by, le_by, eq_by, nonneg_of_positive}
@@ -12,9 +13,8 @@ use Rattle.algebra.proofs.Members.{each_of_more}
 use Rattle.algebra.proofs.Points.{mix-behind_right, weight-mix, weight-go}
 use Rattle.algebra.proofs.Ratio.{ratio_test}
 use Rattle.trim_laws.specs.Solid.{IsIn, IsInside, Proper}
-use Rattle.trim_laws.specs.SameHalfSpace.{SameHalfSpace}
 use Rattle.trim_laws.specs.Trim.{Bears, Trims, ends, keeps, drops}
-use Rattle.trim_laws.specs.Valid.{InCube, world, reach, HasInside, LeavesCube, NoVolume, OutOfWorld}
+use Rattle.trim_laws.specs.Valid.{HasInside, LeavesCube, NoVolume, OutOfWorld}
 use Rattle.trim_laws.proofs.Steps.{small, step_short}
 use Rattle.trim_laws.proofs.SameHalfSpace.{same_sym, same_on}
 use Rattle.trim_laws.proofs.Bearing.{bears_in, in_of_inside}

@@ -2,14 +2,13 @@
 use Rattle.std.proofs.Common.{◌≡◌, List, [], ◌∷◌, arith, ◌⊎◌, inl, inr, ⊎_elim, ℤ, pos, ◌+ℤ◌, ◌-ℤ◌, ◌*ℤ◌, ◌<ℤ◌, ◌≤ℤ◌}
 use Rattle.std.proofs.lemmas.Int.{ints}
 use Rattle.algebra.specs.Members.{◌∈◌, here, there}
-use Rattle.algebra.specs.Space.{Homogeneous, HalfSpace, side, mix}
+use Rattle.algebra.specs.Space.{Homogeneous, HalfSpace, side, mix, SameHalfSpace}
 use Rattle.algebra.proofs.Expr.{read}
 use Rattle.algebra.proofs.Ring.{ring}
 use Rattle.algebra.proofs.Orders.{signs, lt_by, nonneg_of_positive, cancel-lt_left}
 use Rattle.algebra.proofs.Members.{each_of_more}
 use Rattle.algebra.proofs.Points.{mix-on, mix-in, mix-behind_left, mix-behind_right, weight-mix}
 use Rattle.trim_laws.specs.Solid.{IsIn}
-use Rattle.trim_laws.specs.SameHalfSpace.{SameHalfSpace}
 use Rattle.trim_laws.proofs.Bearing.{bears_in, in_of_inside}
 use Rattle.vertex_laws.specs.Laws.{BearsLaw, IdlesLaw, NoVertexLaw, VolumeLaw, NoVolumeLaw}
 use Rattle.vertex_laws.proofs.Corner.{Lower, corner, corner_on_face}

@@ -3,11 +3,12 @@ use Rattle.std.proofs.Common.{◌≡◌, refl, List, arith, inl, inr, ⊎_elim, 
 use Rattle.std.proofs.lemmas.Int.{ints, by_lt_z}
 use Rattle.algebra.specs.Members.{◌∈◌, here, there}
 use Rattle.algebra.specs.Space.{Vector, Homogeneous, HalfSpace, dot, side, reverse}
+use Rattle.algebra.specs.World.{InCube}
 use Rattle.algebra.proofs.Orders.{by_sign}
 use Rattle.algebra.proofs.Identities.{side-reverse}
 use Rattle.algebra.proofs.Members.{each_of_more, each_of_none}
 use Rattle.trim_laws.specs.Solid.{IsIn, FaceAhead, Bounded}
-use Rattle.trim_laws.specs.Valid.{InCube, LeavesCube}
+use Rattle.trim_laws.specs.Valid.{LeavesCube}
 use Rattle.trim_laws.proofs.Steps.{neg_below}
 use Rattle.vertex_laws.specs.Cube.{wall, cube, VertexOutside}
 use Rattle.vertex_laws.specs.Laws.{CubeLaw, InCubeLaw, LeavesCubeLaw}

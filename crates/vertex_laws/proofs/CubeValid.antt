@@ -3,12 +3,11 @@ use Rattle.std.proofs.Common.{◌∙◌, T, List, [], ◌∷◌, arith, ℤ, pos
 use Rattle.std.proofs.lemmas.Int.{ints}
 use Rattle.std.specs.Int.Signed.{lt_z, le_z}
 use Rattle.algebra.specs.Members.{◌∈◌}
-use Rattle.algebra.specs.Space.{Homogeneous, HalfSpace, dot, side}
+use Rattle.algebra.specs.Space.{Homogeneous, HalfSpace, dot, side, SameHalfSpace}
+use Rattle.algebra.specs.World.{InCube, world}
 use Rattle.algebra.proofs.Members.{each_of_more}
 use Rattle.algebra.proofs.Orders.{mul-le_left}
-use Rattle.trim_laws.specs.SameHalfSpace.{SameHalfSpace}
 use Rattle.trim_laws.specs.Trim.{Bears, ends, keeps, Trim}
-use Rattle.trim_laws.specs.Valid.{InCube, world}
 use Rattle.trim_laws.proofs.SameHalfSpace.{same_refl, numbers_of_same}
 use Rattle.vertex_laws.specs.Cube.{wall, cube}
 use Rattle.vertex_laws.specs.Laws.{CubeValidLaw}
@@ -104,7 +103,7 @@ bottom_bears c h = record {
       (λ n. rw side-wall (omega (arith, ints))) (λ n. rw side-wall (omega (arith, ints))) (λ n. absurd (n (same_refl (wall (pos 0) (pos 0) (negsuc 0) c))));
 }
 
-cube_trim : (c : ℤ) → pos 0 <ℤ c → Trim (cube c) (cube c)
+pub cube_trim : (c : ℤ) → pos 0 <ℤ c → Trim (cube c) (cube c)
 cube_trim c h =
     keeps (record { first = none; bears = right_bears c h })
     (keeps (record { first = beside tt tt tt none; bears = left_bears c h })

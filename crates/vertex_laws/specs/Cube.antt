@@ -1,7 +1,7 @@
 -- Cubes as solids, and what of a solid lies in a cube.
 use Rattle.std.specs.Prelude.{List, [], ◌∷◌, ◌++◌, ℤ, pos, negsuc}
 use Rattle.algebra.specs.Space.{Homogeneous, HalfSpace}
-use Rattle.trim_laws.specs.Valid.{InCube}
+use Rattle.algebra.specs.World.{InCube}
 use Rattle.vertex_laws.specs.Vertex.{IsVertex}
 
 -- The half-space of the points p with (x, y, z) . p at most c.

@@ -2,11 +2,11 @@
 use Rattle.std.specs.Prelude.{◌≡◌, List, ◌∷◌, ◌⊎◌, ◌↔◌, ℤ, pos, ◌<ℤ◌, ◌≤ℤ◌}
 use Rattle.algebra.specs.Members.{◌∈◌}
 use Rattle.algebra.specs.Fractions.{Fraction≤}
-use Rattle.algebra.specs.Space.{Homogeneous, HalfSpace, SamePoint, dot, side}
+use Rattle.algebra.specs.Space.{Homogeneous, HalfSpace, SamePoint, dot, side, SameHalfSpace}
+use Rattle.algebra.specs.World.{InCube, world, reach}
 use Rattle.trim_laws.specs.Solid.{IsIn, IsInside, Proper, Bounded}
-use Rattle.trim_laws.specs.SameHalfSpace.{SameHalfSpace}
 use Rattle.trim_laws.specs.Trim.{Bears, Trim}
-use Rattle.trim_laws.specs.Valid.{InCube, world, reach, Valid, HasInside, LeavesCube, NoVolume, OutOfWorld}
+use Rattle.trim_laws.specs.Valid.{Valid, HasInside, LeavesCube, NoVolume, OutOfWorld}
 use Rattle.vertex_laws.specs.Vertex.{IsVertex, IsEdge, VertexBehind, VertexOnBehind}
 use Rattle.vertex_laws.specs.Cube.{cube, boxed, VertexOutside}
 use Rattle.vertex_laws.specs.HalfEdge.{IsHalfEdge, turn, Outgoing, From, To, IsAmong}

@@ -2,12 +2,10 @@
 use Rattle.std.proofs.Common.{◌≡◌, ◌⊎◌, inl, inr, ⊎_elim, ◌<◌, ◌≤◌, List, length, map, sym, subst, All, pos, ◌<ℤ◌, ◌≤ℤ◌}
 use Rattle.std.specs.List.{Any}
 use Rattle.algebra.specs.Members.{◌∈◌}
-use Rattle.algebra.specs.Space.{Homogeneous, HalfSpace, side}
+use Rattle.algebra.specs.Space.{Homogeneous, HalfSpace, side, SameHalfSpace}
 use Rattle.algebra.proofs.Points.{same-on, same-behind}
 use Rattle.exact_geom.specs.Planes.{ThreePoints, half_space, IsPlane}
-use Rattle.exact_geom.specs.Sides.{SameHalfSpace}
 use Rattle.exact_geom.proofs.PlaneLaws.{normal_positive}
-use Rattle.trim_laws.specs.SameHalfSpace as trim
 use Rattle.trim_laws.specs.Solid.{IsIn, Bounded, Proper}
 use Rattle.trim_laws.specs.Trim.{Bears}
 use Rattle.trim_laws.specs.Valid.{HasInside}
@@ -59,22 +57,16 @@ no_inside P V b h l i = let c = (inside_exactly (map half_space P) b).0 i in let
     no_member V l a.s a.among
 
 -- ---- a face that bears
-pub onto_trim : {f g : HalfSpace} → SameHalfSpace f g → trim.SameHalfSpace f g
-onto_trim s = record { onto = s.onto; back = s.back }
-
-pub of_trim : {f g : HalfSpace} → trim.SameHalfSpace f g → SameHalfSpace f g
-of_trim s = record { onto = s.onto; back = s.back }
-
 on_behind_vertex : (F : List HalfSpace) (V : List Homogeneous) (f g : HalfSpace) → HoldsVertices F V → IsBeside V f g →
-    trim.SameHalfSpace f g ⊎ VertexOnBehind F f g
+    SameHalfSpace f g ⊎ VertexOnBehind F f g
 unfolding IsBeside IsOnBehind
-on_behind_vertex F V f g h beside = ⊎_elim (λ s. inl (onto_trim s))
+on_behind_vertex F V f g h beside = ⊎_elim inl
     (λ any. let m = member_of_any _ V any in inr (record { at = m.it; vertex = h.each m.it m.among; on = m.has.0; behind = m.has.1 })) beside
 
 on_behind_listed : (F : List HalfSpace) (V : List Homogeneous) (f g : HalfSpace) → HoldsVertices F V →
-    trim.SameHalfSpace f g ⊎ VertexOnBehind F f g → IsBeside V f g
+    SameHalfSpace f g ⊎ VertexOnBehind F f g → IsBeside V f g
 unfolding IsBeside IsOnBehind
-on_behind_listed F V f g h either = ⊎_elim (λ s. inl (of_trim s))
+on_behind_listed F V f g h either = ⊎_elim inl
     (λ b. let a = h.all b.at b.vertex in inr (any_of_member _ V a.s a.among (
       same-on f b.at a.s b.vertex.inside.weight a.same b.on,
       same-behind g b.at a.s b.vertex.inside.weight (h.each a.s a.among).inside.weight a.same b.behind,

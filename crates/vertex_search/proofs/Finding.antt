@@ -14,7 +14,7 @@ use Rattle.solid_laws.specs.Names.{Triple, Earlier, MeetAt, IsName, NamedBefore,
 use Rattle.vertex_search.specs.Found.{triple, IsRising, NamedEarlier, FoundBefore}
 use Rattle.vertex_search.proofs.Lists.{each_of_push, member_push, member_last, place_mapped}
 use Rattle.vertex_search.proofs.Names.{same_face, sorted, one_point, vertex_of_meet, met}
-use Rattle.vertex_search.proofs.Reduced.{same_reduced}
+use Rattle.exact_geom.proofs.Unique.{one_form}
 
 -- ---- before the first triple
 pub none_found : (F : List HalfSpace) → FoundBefore F (triple 0 0 0) []
@@ -123,7 +123,7 @@ name_of_new F t V p b i r m new = record {
 
 same_at : (F : List HalfSpace) (t : Triple) (p v : Homogeneous) →
     IsIn F p → IsReduced p → MeetAt F t p → IsIn F v → IsReduced v → MeetAt F t v → p ≡ v
-same_at F t p v i r m j s n = same_reduced p v i.weight j.weight r s (one_point F t p v m n)
+same_at F t p v i r m j s n = one_form p v i.weight j.weight r s (one_point F t p v m n)
 
 pub one_new : (F : List HalfSpace) (i j k : ℕ) (V : List Homogeneous) (p : Homogeneous) → FoundBefore F (triple i j k) V →
     IsCorner F (triple i j k) p → IsIn F p → ¬ (p ∈ V) → FoundBefore F (triple i j (k + 1)) (V ++ p ∷ [])
@@ -146,7 +146,7 @@ one_new F i j k V p b c w new =
 pub not_new : (F : List HalfSpace) (i j k : ℕ) (V : List Homogeneous) (p : Homogeneous) → FoundBefore F (triple i j k) V →
     IsCorner F (triple i j k) p → (IsIn F p → p ∈ V) → FoundBefore F (triple i j (k + 1)) V
 not_new F i j k V p b c old = nothing_new F i j k V b (λ v x u n.
-    let e = same_reduced p v c.weight x.weight c.reduced u (one_point F (triple i j k) p v c.meet n) in
+    let e = one_form p v c.weight x.weight c.reduced u (one_point F (triple i j k) p v c.meet n) in
     subst (λ q. q ∈ V) e (old (subst (IsIn F) (sym e) x)))
 
 -- ---- what three planes have, as they are read

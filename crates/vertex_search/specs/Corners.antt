@@ -1,8 +1,7 @@
 -- What of some points is on a plane, and what is behind one.
 use Rattle.std.specs.Prelude.{◌≡◌, ◌⊎◌, List, pos, ◌<ℤ◌}
 use Rattle.std.specs.List.{Any}
-use Rattle.algebra.specs.Space.{Homogeneous, HalfSpace, side}
-use Rattle.exact_geom.specs.Sides.{SameHalfSpace}
+use Rattle.algebra.specs.Space.{Homogeneous, HalfSpace, side, SameHalfSpace}
 
 -- Some of the points is behind g.
 unfoldable pub SomeBehind : List Homogeneous → HalfSpace → Type 0

@@ -4,10 +4,11 @@ ghost use Rattle.std.specs.Prelude.{◌≡◌, ◌↔◌, ◌<◌, All, length, 
 ghost use Rattle.std.specs.List.{Any};
 ghost use Rattle.algebra.specs.Members.{Every};
 ghost use Rattle.algebra.specs.Space.{side};
+ghost use Rattle.algebra.specs.World.{InCube, world};
 ghost use Rattle.exact_geom.specs.Planes.{half_space, IsPlane, ThreePoints};
 ghost use Rattle.trim_laws.specs.Solid.{Bounded};
 ghost use Rattle.trim_laws.specs.Trim.{Bears};
-ghost use Rattle.trim_laws.specs.Valid.{HasInside, InCube, world};
+ghost use Rattle.trim_laws.specs.Valid.{HasInside};
 ghost use Rattle.solid_laws.specs.Names.{HoldsVertices};
 ghost use Rattle.vertex_search.specs.Corners.{IsBeside, IsOnBehind, SomeBehind};
 
@@ -31,20 +32,11 @@ pub fn has_inside(planes: &[Plane], vertices: &[HVertex]) -> bool
     !vertices.is_empty() && planes.iter().all(|plane| some_behind(vertices, plane))
 }
 
-// Whether the vertex lies in the world.
-fn lies_in_world(vertex: &HVertex) -> bool
-    ensures { IsTrue result ↔ InCube world vertex.now }
-{
-    // What it reads tells that the weight is above 0.
-    let _parts = vertex.parts();
-    in_world(vertex)
-}
-
 /// Whether all of the vertices lie in the world, the cube from -4096 to 4096.
 pub fn all_in_world(vertices: &[HVertex]) -> bool
     ensures { IsTrue result ↔ Every (InCube world) vertices.now }
 {
-    vertices.iter().all(lies_in_world)
+    vertices.iter().all(|vertex| in_world(vertex))
 }
 
 // Whether some vertex is on the plane.

@@ -6,7 +6,8 @@ ghost use Rattle.exact_geom.specs.Planes.{half_space};
 ghost use Rattle.solid_laws.specs.Names.{AreVertices};
 ghost use Rattle.vertex_search.specs.Found.{triple, FoundBefore};
 
-use crate::places::{is_in, meet};
+use crate::places::is_in;
+use exact_geom::uncounted::meet;
 use exact_geom::{HVertex, Plane};
 use std::alloc::{AllocError, Global};
 

@@ -1,7 +1,7 @@
 //! Whole vertices and vertices on a grid, beside values that were worked out with fractions.
 
 ghost use Rattle.std.specs.Prelude.{◌≡◌, ◌<◌};
-ghost use Rattle.exact_geom.specs.Rounding.{IsInCube};
+ghost use Rattle.algebra.specs.World.{InCube, world};
 
 use super::table::{cases, numbers, same, word};
 use super::vertices::planes;
@@ -51,7 +51,7 @@ fn wanted_whole(rt: &impl Abort, line: &str) -> Option<Point> {
 }
 
 fn check_rounded(rt: &impl Abort, line: &str, v: &HVertex)
-    requires { IsInCube 4096 v.now }
+    requires { InCube world v.now }
 {
     same(rt, line, &round(v, 1), &point(rt, line, 4));
     same(rt, line, &round(v, 2), &point(rt, line, 5));

@@ -1,16 +1,17 @@
-use Rattle.std.proofs.Common.{◌≡◌, sym, subst, arith, ◌<◌, ℤ, to_z, of_z, w32, unsigned_abs}
+use Rattle.std.proofs.Common.{◌≡◌, sym, subst, arith, ◌≤◌, ℤ, to_z, of_z, w32, unsigned_abs}
 use Rattle.std.specs.Int.{w128}
 use Rattle.std.proofs.lemmas.Int.{to_z-of_z, fits_signed_from_abs}
+use Rattle.exact_geom.specs.Limits.{coordinate_limit, weight_limit}
 use Rattle.exact_geom.specs.Planes.{vector}
 use Rattle.exact_geom.specs.Rounding.{IsRounded}
 use Rattle.exact_geom.proofs.Exactly.{var}
 use Rattle.exact_geom.proofs.Nearest.{nearest_same}
 use Rattle.exact_geom.proofs.rounding.round.Goals as goal
 
-coordinate : (x : ℤ) → unsigned_abs x < 273000000000000000000000000000 → to_z w128 (of_z w128 x) ≡ x
+coordinate : (x : ℤ) → unsigned_abs x ≤ coordinate_limit → to_z w128 (of_z w128 x) ≡ x
 coordinate x h = to_z-of_z w128 x (fits_signed_from_abs w128 x (omega arith))
 
-heavy : (x : ℤ) → unsigned_abs x < 20900000000000000000000000 → to_z w128 (of_z w128 x) ≡ x
+heavy : (x : ℤ) → unsigned_abs x ≤ weight_limit → to_z w128 (of_z w128 x) ≡ x
 heavy x h = to_z-of_z w128 x (fits_signed_from_abs w128 x (omega arith))
 
 pub returns-clause-rounded : goal.returns-clause-rounded

@@ -1,7 +1,8 @@
 use Rattle.std.proofs.Common.{◌≡◌, ap, ◌∙◌}
 use Rattle.std.specs.Int.{w128}
 use Rattle.algebra.specs.Space.{HalfSpace, cross, dot, det}
-use Rattle.exact_geom.specs.Machine.{direction, numbers}
+use Rattle.exact_geom.specs.Limits.{cross_limit, normal_limit}
+use Rattle.exact_geom.specs.Machine.{vector64, half_space64}
 use Rattle.exact_geom.specs.Sides.{sign_of}
 use Rattle.exact_geom.proofs.Exactly.{call}
 use Rattle.exact_geom.proofs.Sizes.{IsWithin_at, IsWithin-cross, size-dot}
@@ -13,13 +14,13 @@ det_at {f} {g} {h} {f'} {g'} {h'} i j k = ap (λ t. dot t.normal (cross g.normal
 
 pub wide_dot-requires-clause-other_size : goal.wide_dot-requires-clause-other_size
 wide_dot-requires-clause-other_size c =
-    IsWithin_at c.cross.ensures (IsWithin-cross (direction c.numbers-2.result.normal) (direction c.numbers-3.result.normal) 151519232 151519232 c.numbers-2.ensures.size.normal c.numbers-3.ensures.size.normal)
+    IsWithin_at c.cross.ensures (IsWithin-cross (vector64 c.half_space64-2.result.normal) (vector64 c.half_space64-3.result.normal) normal_limit normal_limit c.half_space64-2.ensures.size.normal c.half_space64-3.ensures.size.normal)
 
 pub returns : goal.returns
 returns c =
-    let f = numbers c.numbers.result in
-    let g = numbers c.numbers-2.result in
-    let h = numbers c.numbers-3.result in
-    let s = IsWithin-cross g.normal h.normal 151519232 151519232 c.numbers-2.ensures.size.normal c.numbers-3.ensures.size.normal in
-    let e = call w128 c.wide_dot.result (dot f.normal (cross g.normal h.normal)) (c.wide_dot.ensures ∙ ap (λ v. dot f.normal v) c.cross.ensures) (size-dot f.normal (cross g.normal h.normal) 151519232 45916155331739648 c.numbers.ensures.size.normal s) tt in
-    c.of.ensures ∙ ap sign_of (e.is ∙ det_at c.numbers.ensures.half_space c.numbers-2.ensures.half_space c.numbers-3.ensures.half_space)
+    let f = half_space64 c.half_space64.result in
+    let g = half_space64 c.half_space64-2.result in
+    let h = half_space64 c.half_space64-3.result in
+    let s = IsWithin-cross g.normal h.normal normal_limit normal_limit c.half_space64-2.ensures.size.normal c.half_space64-3.ensures.size.normal in
+    let e = call w128 c.wide_dot.result (dot f.normal (cross g.normal h.normal)) (c.wide_dot.ensures ∙ ap (λ v. dot f.normal v) c.cross.ensures) (size-dot f.normal (cross g.normal h.normal) normal_limit cross_limit c.half_space64.ensures.size.normal s) tt in
+    c.of.ensures ∙ ap sign_of (e.is ∙ det_at c.half_space64.ensures.half_space c.half_space64-2.ensures.half_space c.half_space64-3.ensures.half_space)

@@ -2,7 +2,8 @@ use Rattle.std.proofs.Common.{◌∙◌, sym, subst, map}
 use Rattle.exact_geom.specs.Planes.{half_space}
 use Rattle.trim_laws.specs.Solid.{Bounded}
 use Rattle.algebra.specs.Members.{Every}
-use Rattle.trim_laws.specs.Valid.{HasInside, InCube, world}
+use Rattle.algebra.specs.World.{InCube, world}
+use Rattle.trim_laws.specs.Valid.{HasInside}
 use Rattle.solid_laws.specs.Names.{HoldsVertices}
 use Rattle.solid_laws.proofs.Holds.{holds_vertices}
 use Rattle.solid_brush.specs.Sides.{half_spaces}

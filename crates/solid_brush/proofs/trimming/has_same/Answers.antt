@@ -1,7 +1,7 @@
 use Rattle.std.proofs.Common.{rules, tests}
 use Rattle.std.proofs.lemmas.Iterator.{cases_from_any, YieldsList-from_slice}
+use Rattle.algebra.specs.Space.{SameHalfSpace}
 use Rattle.exact_geom.specs.Planes.{half_space}
-use Rattle.exact_geom.specs.Sides.{SameHalfSpace}
 use Rattle.vertex_search.proofs.Lists.{any_of_cases}
 use Rattle.solid_brush.proofs.trimming.has_same.Goals as goal
 

@@ -1,5 +1,5 @@
 use Rattle.std.proofs.Common.{◌↔◌, All, IsTrue, rules}
-use Rattle.trim_laws.specs.Valid.{InCube, world}
+use Rattle.algebra.specs.World.{InCube, world}
 use Rattle.vertex_search.proofs.Lists.{every_of_all, all_of_every}
 use Rattle.vertex_search.proofs.decide.all_in_world.Goals as goal
 

@@ -1,40 +1,38 @@
-use Rattle.std.proofs.Common.{◌≡◌, ◌≢◌, ℕ, ◌<◌, ◌≤◌, true, false, arith, sym, subst, ap, ◌∙◌, ℤ, pos, neg_ℤ, ◌-ℤ◌, ◌<ℤ◌, FitsSigned, to_z, of_z, unsigned_abs}
+use Rattle.std.proofs.Common.{◌≡◌, ◌≢◌, ℕ, ◌≤◌, true, false, arith, sym, subst, ap, ◌∙◌, ℤ, pos, neg_ℤ, ◌-ℤ◌, ◌<ℤ◌, FitsSigned, to_z, of_z, unsigned_abs}
 use Rattle.std.specs.Int.{◌∣◌, w128}
 use Rattle.std.specs.Prelude.{int_lt}
 use Rattle.std.proofs.lemmas.Int.{ints, to_z_pos, fits_signed_from_abs}
 use Rattle.std.proofs.lemmas.Nat.Gcd.{le_of_dvd}
 use Rattle.algebra.proofs.Orders.{by_sign}
+use Rattle.exact_geom.specs.Limits.{coordinate_limit, weight_limit}
 use Rattle.exact_geom.specs.Vertices.{homogeneous}
 use Rattle.exact_geom.proofs.Division.{common_divisor, divisor_positive, size_positive, upright_divisor, turned_divisor}
 use Rattle.exact_geom.proofs.Exactly.{var, call}
 use Rattle.exact_geom.proofs.crossing.Crossing.divisor.Goals as goal
 
-under : (a n : ℕ) → a < n → a ≤ n
-under a n h = omega arith
+coordinate : (x : ℤ) (r : ℕ) → unsigned_abs x ≤ coordinate_limit → r ≡ unsigned_abs (to_z w128 (of_z w128 x)) → r ≡ unsigned_abs x
+coordinate x r h e = e ∙ ap unsigned_abs (var w128 x h tt).is
 
-coordinate : (x : ℤ) (r : ℕ) → unsigned_abs x < 273000000000000000000000000000 → r ≡ unsigned_abs (to_z w128 (of_z w128 x)) → r ≡ unsigned_abs x
-coordinate x r h e = e ∙ ap unsigned_abs (var w128 x (under (unsigned_abs x) 273000000000000000000000000000 h) tt).is
+weight_is : (w : ℤ) → unsigned_abs w ≤ weight_limit → to_z w128 (of_z w128 w) ≡ w
+weight_is w h = (var w128 w h tt).is
 
-weight_is : (w : ℤ) → unsigned_abs w < 20900000000000000000000000 → to_z w128 (of_z w128 w) ≡ w
-weight_is w h = (var w128 w (under (unsigned_abs w) 20900000000000000000000000 h) tt).is
-
-weight_size : (w : ℤ) (r : ℕ) → unsigned_abs w < 20900000000000000000000000 → r ≡ unsigned_abs (to_z w128 (of_z w128 w)) → r ≡ unsigned_abs w
+weight_size : (w : ℤ) (r : ℕ) → unsigned_abs w ≤ weight_limit → r ≡ unsigned_abs (to_z w128 (of_z w128 w)) → r ≡ unsigned_abs w
 weight_size w r h e = e ∙ ap unsigned_abs (weight_is w h)
 
 -- no divisor of the weight is greater
-small : (g : ℕ) (w : ℤ) → w ≢ pos 0 → unsigned_abs w < 20900000000000000000000000 → g ∣ unsigned_abs w → g < 20900000000000000000000000
+small : (g : ℕ) (w : ℤ) → w ≢ pos 0 → unsigned_abs w ≤ weight_limit → g ∣ unsigned_abs w → g ≤ weight_limit
 small g w n h k = let l = le_of_dvd (size_positive w n) k in omega arith
 
-at_most : (g : ℕ) → g < 20900000000000000000000000 → to_z w128 g ≡ pos g
+at_most : (g : ℕ) → g ≤ weight_limit → to_z w128 g ≡ pos g
 at_most g h = to_z_pos w128 g (omega arith)
 
-turned : (g : ℕ) → g < 20900000000000000000000000 → pos 0 -ℤ to_z w128 g ≡ neg_ℤ (pos g)
+turned : (g : ℕ) → g ≤ weight_limit → pos 0 -ℤ to_z w128 g ≡ neg_ℤ (pos g)
 turned g h = let e = at_most g h in ap (λ z. pos 0 -ℤ z) e ∙ omega (arith, ints)
 
-turned_size : (g : ℕ) → g < 20900000000000000000000000 → unsigned_abs (neg_ℤ (pos g)) ≤ 20900000000000000000000000
+turned_size : (g : ℕ) → g ≤ weight_limit → unsigned_abs (neg_ℤ (pos g)) ≤ weight_limit
 turned_size g h = omega (arith, ints)
 
-turned_fits : (g : ℕ) → g < 20900000000000000000000000 → FitsSigned w128 (pos 0 -ℤ to_z w128 g)
+turned_fits : (g : ℕ) → g ≤ weight_limit → FitsSigned w128 (pos 0 -ℤ to_z w128 g)
 turned_fits g h = subst (FitsSigned w128) (sym (turned g h)) (let s = turned_size g h in fits_signed_from_abs w128 (neg_ℤ (pos g)) (omega arith))
 
 negative : (w m : ℤ) → m ≡ w → int_lt m (pos 0) ≡ true → w <ℤ pos 0

@@ -1,20 +1,21 @@
 use Rattle.std.proofs.Common.{◌≡◌, ap, ◌∙◌, lit≤, ℤ, w64}
 use Rattle.algebra.specs.Space.{Vector, cross, dot, minus, through}
 use Rattle.algebra.proofs.Identities.{half_space_by}
+use Rattle.exact_geom.specs.Limits.{normal_limit}
 use Rattle.exact_geom.specs.declared.point.Point.{Point}
 use Rattle.exact_geom.specs.Planes.{half_space, vector}
 use Rattle.exact_geom.proofs.Exactly.{call}
 use Rattle.exact_geom.proofs.Sizes.{IsWithin_more, IsWithin_at, IsWithin-minus}
 use Rattle.exact_geom.proofs.PlaneLaws.{in_range, normal_size, distance_size}
-use Rattle.exact_geom.proofs.half_space.Numbers.through.Goals as goal
+use Rattle.exact_geom.proofs.half_space.HalfSpace64.through.Goals as goal
 
 pub cross-normal-requires-clause-size : goal.cross-normal-requires-clause-size
 cross-normal-requires-clause-size c =
-    IsWithin_at c.between.ensures (IsWithin_more 151519232 (IsWithin-minus (vector c.args.p0.now) (vector c.args.p1.now) 4352 4352 (in_range c.args.p0.now c.requires.p0_in_range) (in_range c.args.p1.now c.requires.p1_in_range)) (lit≤ tt))
+    IsWithin_at c.between.ensures (IsWithin_more normal_limit (IsWithin-minus (vector c.args.p0.now) (vector c.args.p1.now) 4352 4352 (in_range c.args.p0.now c.requires.p0_in_range) (in_range c.args.p1.now c.requires.p1_in_range)) (lit≤ tt))
 
 pub cross-normal-requires-clause-other_size : goal.cross-normal-requires-clause-other_size
 cross-normal-requires-clause-other_size c =
-    IsWithin_at c.between-2.ensures (IsWithin_more 151519232 (IsWithin-minus (vector c.args.p2.now) (vector c.args.p1.now) 4352 4352 (in_range c.args.p2.now c.requires.p2_in_range) (in_range c.args.p1.now c.requires.p1_in_range)) (lit≤ tt))
+    IsWithin_at c.between-2.ensures (IsWithin_more normal_limit (IsWithin-minus (vector c.args.p2.now) (vector c.args.p1.now) 4352 4352 (in_range c.args.p2.now c.requires.p2_in_range) (in_range c.args.p1.now c.requires.p1_in_range)) (lit≤ tt))
 
 -- from what the calls gave
 normal_is : {u v w : Vector} (p0 p1 p2 : Point) → w ≡ cross u v → u ≡ minus (vector p0) (vector p1) → v ≡ minus (vector p2) (vector p1) → w ≡ (half_space (record { p0 = p0; p1 = p1; p2 = p2 })).normal
@@ -32,7 +33,7 @@ dot-distance-requires-clause-size c =
 
 pub dot-distance-requires-clause-other_size : goal.dot-distance-requires-clause-other_size
 dot-distance-requires-clause-other_size c =
-    IsWithin_at c.of_point.ensures (IsWithin_more 151519232 (in_range c.args.p1.now c.requires.p1_in_range) (lit≤ tt))
+    IsWithin_at c.of_point.ensures (IsWithin_more normal_limit (in_range c.args.p1.now c.requires.p1_in_range) (lit≤ tt))
 
 pub returns : goal.returns
 returns c =

@@ -3,7 +3,7 @@ use Rattle.algebra.specs.Space.{minus}
 use Rattle.algebra.proofs.Identities.{vector_by}
 use Rattle.exact_geom.proofs.Exactly.{var, call, less}
 use Rattle.exact_geom.proofs.PlaneLaws.{in_range}
-use Rattle.exact_geom.proofs.half_space.Direction.between.Goals as goal
+use Rattle.exact_geom.proofs.half_space.Vector64.between.Goals as goal
 
 pub returns : goal.returns
 unfolding minus

@@ -1,6 +1,6 @@
 use Rattle.algebra.specs.Space.{dot}
 use Rattle.exact_geom.proofs.Exactly.{products_is}
-use Rattle.exact_geom.proofs.half_space.Direction.wide_dot.Goals as goal
+use Rattle.exact_geom.proofs.half_space.Vector64.wide_dot.Goals as goal
 
 pub returns : goal.returns
 unfolding dot

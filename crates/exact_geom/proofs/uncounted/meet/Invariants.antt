@@ -1,4 +1,4 @@
-use Rattle.vertex_search.proofs.places.meet.Given as goal
+use Rattle.exact_geom.proofs.uncounted.meet.Given as goal
 
 abbrev pub ghosts-meet_once : goal.ghosts-meet_once
 ghosts-meet_once a = record { name = a.blank.name; parts = a.blank.parts }

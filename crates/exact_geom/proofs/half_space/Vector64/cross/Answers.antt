@@ -1,7 +1,7 @@
 use Rattle.algebra.specs.Space.{cross}
 use Rattle.algebra.proofs.Identities.{vector_by}
 use Rattle.exact_geom.proofs.Exactly.{minor_is}
-use Rattle.exact_geom.proofs.half_space.Direction.cross.Goals as goal
+use Rattle.exact_geom.proofs.half_space.Vector64.cross.Goals as goal
 
 pub returns : goal.returns
 unfolding cross

@@ -1,5 +1,5 @@
 use Rattle.exact_geom.proofs.PlaneLaws.{is_small, IsSmall_at}
-use Rattle.exact_geom.proofs.plane.Plane.numbers.Goals as goal
+use Rattle.exact_geom.proofs.plane.Plane.half_space64.Goals as goal
 
 pub returns-clause-size : goal.returns-clause-size
 returns-clause-size c =

@@ -1,7 +1,7 @@
 use Rattle.std.proofs.Common.{w64}
 use Rattle.algebra.specs.Space.{dot}
 use Rattle.exact_geom.proofs.Exactly.{var, times, times_fits, sum, sum_fits}
-use Rattle.exact_geom.proofs.half_space.Direction.dot.Goals as goal
+use Rattle.exact_geom.proofs.half_space.Vector64.dot.Goals as goal
 
 pub overflow_add-result : goal.overflow_add-result
 overflow_add-result c =
