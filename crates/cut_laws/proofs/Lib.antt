@@ -1,0 +1,9 @@
+pub mod Backs
+pub mod CutVertex
+pub mod Alone
+pub mod CutFace
+pub mod Missed
+pub mod Leaving
+pub mod TrimStep
+pub mod Incoming
+pub mod Bound
