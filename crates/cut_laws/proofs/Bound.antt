@@ -1,13 +1,12 @@
 -- The trimmed list of a bounded list is bounded.
 use Rattle.std.proofs.Common.{[], ◌∷◌, arith, ℤ, pos, ◌+ℤ◌, ◌-ℤ◌, ◌*ℤ◌, ◌<ℤ◌, ◌≤ℤ◌}
 use Rattle.std.proofs.lemmas.Int.{ints, by_lt_z}
-use Rattle.algebra.specs.Space.{Homogeneous, HalfSpace, dot, side, go}
+use Rattle.algebra.specs.Space.{Homogeneous, HalfSpace, dot, side, go, SameHalfSpace}
 use Rattle.algebra.proofs.Expr.{read}
 use Rattle.algebra.proofs.Ring.{ring}
 use Rattle.algebra.proofs.Orders.{signs, lt_by, nonpos-mul}
 use Rattle.algebra.proofs.Identities.{side-go}
 use Rattle.algebra.proofs.Points.{weight-go}
-use Rattle.trim_laws.specs.SameHalfSpace.{SameHalfSpace}
 use Rattle.trim_laws.proofs.Trimmed.{trimmed_in, kept_face, outside}
 use Rattle.cut_laws.specs.Laws.{TrimBoundedLaw}
 

@@ -1,11 +1,10 @@
 -- The half-edges behind a further plane.
 use Rattle.std.proofs.Common.{◌≡◌, List, sym, ◌∙◌, arith, ⊎_elim, ℤ, pos, ◌+ℤ◌, ◌*ℤ◌, neg_ℤ, ◌<ℤ◌, ◌≤ℤ◌}
 use Rattle.std.proofs.lemmas.Int.{ints, by_lt_z}
-use Rattle.algebra.specs.Space.{Homogeneous, HalfSpace, SamePoint, dot, side}
+use Rattle.algebra.specs.Space.{Homogeneous, HalfSpace, SamePoint, dot, side, SameHalfSpace}
 use Rattle.algebra.proofs.Orders.{positive-mul, positive-neg, nonneg_of_positive}
 use Rattle.algebra.proofs.Identities.{side-mix, dot-way_mix}
 use Rattle.algebra.proofs.Points.{mix-on, mix_plain_left, mix_plain_right, same_point_sym, apart_by_behind}
-use Rattle.trim_laws.specs.SameHalfSpace.{SameHalfSpace}
 use Rattle.trim_laws.proofs.Steps.{below_le}
 use Rattle.trim_laws.proofs.SameHalfSpace.{parallel_of_same}
 use Rattle.vertex_laws.specs.Vertex.{IsVertex, Crosses}

@@ -2,11 +2,10 @@
 use Rattle.std.proofs.Common.{◌≡◌, List, arith, ⊎_elim, pos, ◌<ℤ◌}
 use Rattle.std.proofs.lemmas.Int.{ints, by_lt_z}
 use Rattle.algebra.specs.Members.{◌∈◌}
-use Rattle.algebra.specs.Space.{HalfSpace, dot, side, go}
+use Rattle.algebra.specs.Space.{HalfSpace, dot, side, go, SameHalfSpace}
 use Rattle.algebra.proofs.Identities.{side-go}
 use Rattle.algebra.proofs.Points.{weight-go}
 use Rattle.trim_laws.specs.Solid.{IsIn, Proper}
-use Rattle.trim_laws.specs.SameHalfSpace.{SameHalfSpace}
 use Rattle.trim_laws.specs.Trim.{Bears}
 use Rattle.trim_laws.proofs.Bearing.{bears_in}
 use Rattle.trim_laws.proofs.Steps.{small, step_short, step_front, below_le}

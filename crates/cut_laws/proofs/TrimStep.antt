@@ -2,10 +2,9 @@
 use Rattle.std.proofs.Common.{◌≡◌, List, [], ◌∷◌, length, ◌≤◌, arith, ◌⊎◌, inl, inr, ⊎_elim, pos, ◌<ℤ◌, ◌≤ℤ◌}
 use Rattle.std.proofs.lemmas.Int.{ints, by_lt_z}
 use Rattle.algebra.specs.Members.{◌∈◌, here, there}
-use Rattle.algebra.specs.Space.{Homogeneous, HalfSpace, dot, cross, side}
+use Rattle.algebra.specs.Space.{Homogeneous, HalfSpace, dot, cross, side, SameHalfSpace}
 use Rattle.algebra.proofs.Members.{each_of_more}
 use Rattle.trim_laws.specs.Solid.{IsIn, IsInside, Proper, Bounded}
-use Rattle.trim_laws.specs.SameHalfSpace.{SameHalfSpace}
 use Rattle.trim_laws.specs.Trim.{Bears, IsKept, Trims, ends, keeps, drops, Trim}
 use Rattle.trim_laws.proofs.Bearing.{bears_in}
 use Rattle.trim_laws.proofs.Once.{bears_in_part}

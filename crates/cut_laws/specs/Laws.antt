@@ -1,9 +1,8 @@
 -- The laws of cutting.
 use Rattle.std.specs.Prelude.{◌≡◌, ◌⊎◌, List, pos, ◌≤ℤ◌, ◌<ℤ◌}
 use Rattle.algebra.specs.Members.{◌∈◌}
-use Rattle.algebra.specs.Space.{Homogeneous, HalfSpace, SamePoint, dot, side}
+use Rattle.algebra.specs.Space.{Homogeneous, HalfSpace, SamePoint, dot, side, SameHalfSpace}
 use Rattle.trim_laws.specs.Solid.{IsIn, IsInside, Proper, Bounded}
-use Rattle.trim_laws.specs.SameHalfSpace.{SameHalfSpace}
 use Rattle.trim_laws.specs.Trim.{Bears, Trim}
 use Rattle.vertex_laws.specs.Vertex.{IsVertex, VertexOnBehind}
 use Rattle.vertex_laws.specs.HalfEdge.{IsHalfEdge}

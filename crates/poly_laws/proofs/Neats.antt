@@ -2,12 +2,11 @@
 use Rattle.std.proofs.Common.{◌≡◌, refl, List, arith, pos, neg_ℤ, ◌+ℤ◌, ◌*ℤ◌, ◌<ℤ◌}
 use Rattle.std.proofs.lemmas.Int.{ints}
 use Rattle.algebra.specs.Members.{◌∈◌, here, there}
-use Rattle.algebra.specs.Space.{Homogeneous, HalfSpace, side, mix}
+use Rattle.algebra.specs.Space.{Homogeneous, HalfSpace, side, mix, SameHalfSpace}
 use Rattle.algebra.proofs.Orders.{nonneg_of_positive, positive-neg}
 use Rattle.algebra.proofs.Identities.{side-mix}
 use Rattle.algebra.proofs.Points.{mix-behind_right, weight-mix}
 use Rattle.trim_laws.specs.Solid.{IsIn, IsInside}
-use Rattle.trim_laws.specs.SameHalfSpace.{SameHalfSpace}
 use Rattle.trim_laws.specs.Trim.{Bears}
 use Rattle.trim_laws.proofs.Once.{trim_again}
 use Rattle.trim_laws.proofs.Steps.{square_and_1, toward_plain}

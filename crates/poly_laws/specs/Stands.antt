@@ -1,9 +1,8 @@
 -- The polyhedron that stands for a list of half-spaces.
 use Rattle.std.specs.Prelude.{◌≡◌, ℕ, List, pos}
 use Rattle.algebra.specs.Members.{◌∈◌}
-use Rattle.algebra.specs.Space.{Homogeneous, HalfSpace, SamePoint, side}
+use Rattle.algebra.specs.Space.{Homogeneous, HalfSpace, SamePoint, side, SameHalfSpace}
 use Rattle.trim_laws.specs.Solid.{Proper, Bounded}
-use Rattle.trim_laws.specs.SameHalfSpace.{SameHalfSpace}
 use Rattle.trim_laws.specs.Trim.{Bears}
 use Rattle.vertex_laws.specs.Vertex.{IsVertex}
 use Rattle.vertex_laws.specs.HalfEdge.{IsHalfEdge}
