@@ -9,7 +9,7 @@ use Rattle.std.proofs.Math.Seq.{take-suc}
 use Rattle.algebra.specs.Members.{◌∈◌, Every}
 use Rattle.algebra.specs.Space.{Homogeneous, HalfSpace}
 use Rattle.algebra.proofs.Members.{member_at}
-use Rattle.trim_laws.specs.Valid.{InCube, world}
+use Rattle.algebra.specs.World.{InCube, world}
 use Rattle.solid_laws.specs.Names.{AreVertices}
 use Rattle.solid_laws.specs.FaceLoop.{HasVertexCount, HasVertex}
 use Rattle.solid_laws.proofs.OneList.{one_list}

@@ -5,7 +5,8 @@ use Rattle.algebra.specs.Members.{◌∈◌, here, there, Every}
 use Rattle.algebra.specs.Space.{Vector, whole_point}
 use Rattle.exact_geom.specs.declared.point.Point.{Point}
 use Rattle.trim_laws.specs.Trim.{Trim}
-use Rattle.trim_laws.specs.Valid.{InCube, world, Cause, HasCause}
+use Rattle.algebra.specs.World.{InCube, world}
+use Rattle.trim_laws.specs.Valid.{Cause, HasCause}
 use Rattle.trim_laws.proofs.Faces.{trim_faces}
 use Rattle.hull_laws.specs.Facets.{Spans, Triple, plane_of, FacetAt, Facets}
 use Rattle.hull_laws.proofs.Faces.{faces}

@@ -5,7 +5,7 @@ use Rattle.algebra.specs.Space.{Vector, Homogeneous, whole_point}
 use Rattle.exact_geom.specs.declared.point.Point.{Point}
 use Rattle.exact_geom.specs.Planes.{vector, ThreePoints}
 use Rattle.trim_laws.specs.Solid.{IsIn}
-use Rattle.trim_laws.specs.Valid.{InCube, world}
+use Rattle.algebra.specs.World.{InCube, world}
 use Rattle.solid_brush.specs.declared.side.Side.{Side}
 use Rattle.solid_brush.specs.Sides.{half_spaces, IsSolid}
 use Rattle.hull_laws.specs.Facets.{Spans, Triple, plane_of, Facets, Held, firsts}

@@ -2,7 +2,7 @@
 
 ghost use Rattle.std.specs.Prelude.{◌≡◌, ◌≤◌, length, map, pos, IfOk, IfSome, IsNone};
 ghost use Rattle.algebra.specs.Members.{Every};
-ghost use Rattle.trim_laws.specs.Valid.{InCube, world};
+ghost use Rattle.algebra.specs.World.{InCube, world};
 ghost use Rattle.solid_laws.specs.Names.{AreVertices};
 ghost use Rattle.solid_brush.specs.Sides.{half_spaces};
 ghost use Rattle.hull_merge.specs.Gathered.{whole_of, HasWeight};
@@ -35,8 +35,6 @@ fn point_of(vertex: &HVertex) -> Option<Point>
     ensures some { IfSome result (λ p. whole_of p ≡ vertex.now) }
     ensures none { IsNone result → ¬ (vertex.now.weight ≡ pos 1) }
 {
-    // What it reads tells that the weight is above 0.
-    let _parts = vertex.parts();
     whole(vertex)
 }
 
