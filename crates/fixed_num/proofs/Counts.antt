@@ -1,11 +1,10 @@
 -- The counts of a word: there is just one, and what the reader keeps tells it.
-use Rattle.std.proofs.Common.{◌≡◌, ◌≢◌, ℕ, ◌+◌, ◌*◌, ◌/◌, ◌%◌, ◌^◌, ◌<◌, ◌≤◌, zero, suc, Bool, true, false, List, refl, arith, sym, ap, ◌∙◌, ⊎_elim, subst, ℤ, pos, ◌*ℤ◌, unsigned_abs, Some, zero-mul}
+use Rattle.std.proofs.Common.{◌≡◌, ℕ, ◌+◌, ◌*◌, ◌%◌, ◌^◌, ◌<◌, ◌≤◌, zero, suc, Bool, true, false, List, refl, arith, sym, ap, ◌∙◌, ⊎_elim, subst, ℤ, pos, ◌*ℤ◌, unsigned_abs, Some, zero-mul}
 use Rattle.std.proofs.Math.Nat.{one-le-pow}
 use Rattle.std.proofs.lemmas.Bool.{cases_lt}
-use Rattle.std.proofs.lemmas.Int.{unsigned_abs-mul}
 use Rattle.fixed_num.specs.NumberWord.{Parts, HasParts}
 use Rattle.fixed_num.specs.DecimalValue.{RoundsTo, IsExactly, IsNearest, with_sign, numerator, denominator}
-use Rattle.fixed_num.specs.Scan.{scan, squeezed, KeepsNearest}
+use Rattle.fixed_num.specs.Scan.{scan, squeezed, KeepsCount}
 use Rattle.fixed_num.proofs.Cuts.{scan-of_parts}
 use Rattle.fixed_num.proofs.Kept.{squeezed-small, squeezed-great}
 use Rattle.fixed_num.proofs.Nearest.{same_from_nearest, IsNearest-from_between, nearest_of_exact}
@@ -71,112 +70,49 @@ rest_again n = omega arith
 pub rest_from_kept : (size : ℕ) → squeezed size % 10 ^ 6 ≡ size % 10 ^ 6
 rest_from_kept size = ⊎_elim (λ l. ap (λ x. x % 10 ^ 6) (squeezed-small size l)) (λ l. ap (λ x. x % 10 ^ 6) (squeezed-great size l) ∙ rest_again size) (cases_lt size (10 ^ 18))
 
-pub rounds_from_kept : (decimals : ℕ) (word : List ℕ) (parts : Parts) (kept : ℕ) → HasParts word parts → (keeps : KeepsNearest decimals parts kept)
-    → RoundsTo decimals word (with_sign parts.negative keeps.size)
-rounds_from_kept decimals word parts kept h keeps = record {
-  parts = parts;
-  has_parts = h;
-  size = keeps.size;
-  nearest = keeps.nearest;
-  is_signed = refl;
+-- ---- the count that is kept of a word
+
+kept_count_is : (decimals : ℕ) (word : List ℕ) (negative : Bool) (kept : ℕ) (k : KeepsCount decimals word negative kept) (count : ℤ)
+    → RoundsTo decimals word count → count ≡ with_sign negative k.keeps.size
+kept_count_is decimals word negative kept k count rounds =
+    count_from_parts decimals word k.parts k.keeps.size count k.has_parts k.keeps.nearest rounds ∙ ap (λ s. with_sign s k.keeps.size) (sym k.is_signed)
+
+pub size_from_kept : (decimals : ℕ) (word : List ℕ) (negative : Bool) (kept : ℕ) (k : KeepsCount decimals word negative kept) (count : ℤ)
+    → RoundsTo decimals word count → unsigned_abs count ≡ k.keeps.size
+size_from_kept decimals word negative kept k count rounds =
+    ap unsigned_abs (kept_count_is decimals word negative kept k count rounds) ∙ unsigned_abs-with_sign negative k.keeps.size
+
+pub rounds_from_kept : (decimals : ℕ) (word : List ℕ) (negative : Bool) (kept : ℕ) → (k : KeepsCount decimals word negative kept)
+    → RoundsTo decimals word (with_sign negative k.keeps.size)
+rounds_from_kept decimals word negative kept k = record {
+  parts = k.parts;
+  has_parts = k.has_parts;
+  size = k.keeps.size;
+  nearest = k.keeps.nearest;
+  is_signed = ap (λ s. with_sign s k.keeps.size) k.is_signed;
 }
+
+pub kept_is_size : (decimals : ℕ) (word : List ℕ) (negative : Bool) (kept : ℕ) → (k : KeepsCount decimals word negative kept) → kept < 10 ^ 18 → k.keeps.size ≡ kept
+kept_is_size decimals word negative kept k h =
+    let is_kept : kept ≡ squeezed k.keeps.size = k.keeps.is_squeezed in
+    small_from_kept k.keeps.size (omega arith) ∙ sym is_kept
+
+pub rounds_to_kept : (decimals : ℕ) (word : List ℕ) (negative : Bool) (kept : ℕ) → KeepsCount decimals word negative kept → kept < 10 ^ 18
+    → RoundsTo decimals word (with_sign negative kept)
+rounds_to_kept decimals word negative kept k small =
+    subst (λ n. RoundsTo decimals word (with_sign negative n)) (kept_is_size decimals word negative kept k small) (rounds_from_kept decimals word negative kept k)
 
 -- ---- too large a count
 
-pub past_from_kept : (decimals : ℕ) (word : List ℕ) (parts : Parts) (kept limit : ℕ) → HasParts word parts → KeepsNearest decimals parts kept → limit ≤ 10 ^ 18 → limit ≤ kept
+pub past_from_kept : (decimals : ℕ) (word : List ℕ) (negative : Bool) (kept limit : ℕ) → KeepsCount decimals word negative kept → limit ≤ 10 ^ 18 → limit ≤ kept
     → (count : ℤ) × RoundsTo decimals word count × (limit ≤ unsigned_abs count)
-past_from_kept decimals word parts kept limit h keeps bound past =
-    let is_kept : kept ≡ squeezed keeps.size = keeps.is_squeezed in
-    let size_past : limit ≤ keeps.size = great_from_kept keeps.size limit bound (omega arith) in
-    (with_sign parts.negative keeps.size, rounds_from_kept decimals word parts kept h keeps, rw (unsigned_abs-with_sign parts.negative keeps.size) size_past)
+past_from_kept decimals word negative kept limit k bound past =
+    let is_kept : kept ≡ squeezed k.keeps.size = k.keeps.is_squeezed in
+    let size_past : limit ≤ k.keeps.size = great_from_kept k.keeps.size limit bound (omega arith) in
+    (with_sign negative k.keeps.size, rounds_from_kept decimals word negative kept k, rw (unsigned_abs-with_sign negative k.keeps.size) size_past)
 
-pub kept_is_size : (decimals : ℕ) (parts : Parts) (kept : ℕ) → (keeps : KeepsNearest decimals parts kept) → kept < 10 ^ 18 → keeps.size ≡ kept
-kept_is_size decimals parts kept keeps h =
-    let is_kept : kept ≡ squeezed keeps.size = keeps.is_squeezed in
-    small_from_kept keeps.size (omega arith) ∙ sym is_kept
-
-pub rounds_to_kept : (decimals : ℕ) (word : List ℕ) (parts : Parts) (kept : ℕ) → HasParts word parts → KeepsNearest decimals parts kept → kept < 10 ^ 18
-    → RoundsTo decimals word (with_sign parts.negative kept)
-rounds_to_kept decimals word parts kept h keeps small =
-    subst (λ n. RoundsTo decimals word (with_sign parts.negative n)) (kept_is_size decimals parts kept keeps small) (rounds_from_kept decimals word parts kept h keeps)
-
-pub not_past_kept : (decimals : ℕ) (word : List ℕ) (parts : Parts) (kept limit : ℕ) (count : ℤ) → HasParts word parts → KeepsNearest decimals parts kept → limit ≤ 10 ^ 18 → kept < limit
+pub not_past_kept : (decimals : ℕ) (word : List ℕ) (negative : Bool) (kept limit : ℕ) (count : ℤ) → KeepsCount decimals word negative kept → limit ≤ 10 ^ 18 → kept < limit
     → RoundsTo decimals word count → unsigned_abs count < limit
-not_past_kept decimals word parts kept limit count h keeps bound below rounds =
-    let same : count ≡ with_sign parts.negative kept = same_count decimals word _ _ rounds (rounds_to_kept decimals word parts kept h keeps (omega arith)) in
-    rw (same, unsigned_abs-with_sign parts.negative kept) below
-
--- ---- whole counts of millionths
-
--- a count is a whole number of millions just where its last six digits are 0
-rest_of_whole : (negative : Bool) (size : ℕ) (whole : ℤ) → with_sign negative size ≡ whole *ℤ pos (10 ^ 6) → size % 10 ^ 6 ≡ 0
-rest_of_whole negative size whole e =
-    let sizes : size ≡ unsigned_abs whole * 10 ^ 6 = sym (unsigned_abs-with_sign negative size) ∙ ap unsigned_abs e ∙ unsigned_abs-mul whole (pos (10 ^ 6)) in
-    omega arith
-
-pub size_of_whole : (negative : Bool) (size : ℕ) (whole : ℤ) → with_sign negative size ≡ whole *ℤ pos (10 ^ 6) → unsigned_abs whole ≡ size / 10 ^ 6
-size_of_whole negative size whole e =
-    let sizes : size ≡ unsigned_abs whole * 10 ^ 6 = sym (unsigned_abs-with_sign negative size) ∙ ap unsigned_abs e ∙ unsigned_abs-mul whole (pos (10 ^ 6)) in
-    omega arith
-
-whole_of_rest : (negative : Bool) (size : ℕ) → size % 10 ^ 6 ≡ 0 → with_sign negative size ≡ with_sign negative (size / 10 ^ 6) *ℤ pos (10 ^ 6)
-whole_of_rest negative size e =
-    let sizes : size ≡ size / 10 ^ 6 * 10 ^ 6 = omega arith in
-    ap (with_sign negative) sizes ∙ sym (with_sign-mul negative (size / 10 ^ 6) (10 ^ 6))
-
-pub kept_rest : (decimals : ℕ) (parts : Parts) (kept : ℕ) → (keeps : KeepsNearest decimals parts kept) → kept % 10 ^ 6 ≡ keeps.size % 10 ^ 6
-kept_rest decimals parts kept keeps = ap (λ n. n % 10 ^ 6) keeps.is_squeezed ∙ rest_from_kept keeps.size
-
--- the last six digits are not 0: there is a count, and it is not whole
-pub fraction_from_kept : (word : List ℕ) (parts : Parts) (kept : ℕ) → HasParts word parts → KeepsNearest 6 parts kept → kept % 10 ^ 6 ≢ 0
-    → (count : ℤ) × RoundsTo 6 word count × ((whole : ℤ) → count ≢ whole *ℤ pos (10 ^ 6))
-fraction_from_kept word parts kept h keeps some = (
-  with_sign parts.negative keeps.size,
-  rounds_from_kept 6 word parts kept h keeps,
-  λ whole e. some (kept_rest 6 parts kept keeps ∙ rest_of_whole parts.negative keeps.size whole e),
-)
-
-pub no_whole_from_kept : (word : List ℕ) (parts : Parts) (kept : ℕ) (whole : ℤ) → HasParts word parts → KeepsNearest 6 parts kept → kept % 10 ^ 6 ≢ 0
-    → RoundsTo 6 word (whole *ℤ pos (10 ^ 6)) → ⊥
-no_whole_from_kept word parts kept whole h keeps some rounds =
-    some (kept_rest 6 parts kept keeps
-    ∙ rest_of_whole parts.negative keeps.size whole (sym (count_from_parts 6 word parts keeps.size _ h keeps.nearest rounds)))
-
--- they are 0: the count is whole
-pub rounds_to_whole : (word : List ℕ) (parts : Parts) (kept : ℕ) → HasParts word parts → (keeps : KeepsNearest 6 parts kept) → kept % 10 ^ 6 ≡ 0
-    → RoundsTo 6 word (with_sign parts.negative (keeps.size / 10 ^ 6) *ℤ pos (10 ^ 6))
-rounds_to_whole word parts kept h keeps none =
-    subst (RoundsTo 6 word) (whole_of_rest parts.negative keeps.size (sym (kept_rest 6 parts kept keeps) ∙ none)) (rounds_from_kept 6 word parts kept h keeps)
-
-pub no_fraction_from_kept : (word : List ℕ) (parts : Parts) (kept : ℕ) (count : ℤ) → HasParts word parts → KeepsNearest 6 parts kept → kept % 10 ^ 6 ≡ 0
-    → RoundsTo 6 word count → ((whole : ℤ) → count ≢ whole *ℤ pos (10 ^ 6)) → ⊥
-no_fraction_from_kept word parts kept count h keeps none rounds never =
-    never (with_sign parts.negative (keeps.size / 10 ^ 6)) (same_count 6 word count _ rounds (rounds_to_whole word parts kept h keeps none))
-
--- the whole value against a limit
-pub whole_past_kept : (word : List ℕ) (parts : Parts) (kept limit : ℕ) → HasParts word parts → KeepsNearest 6 parts kept → kept % 10 ^ 6 ≡ 0 → limit ≤ 1000000 → limit < kept / 10 ^ 6
-    → (whole : ℤ) × RoundsTo 6 word (whole *ℤ pos (10 ^ 6)) × (limit < unsigned_abs whole)
-whole_past_kept word parts kept limit h keeps none bound past =
-    let is_kept : kept ≡ squeezed keeps.size = keeps.is_squeezed in
-    let size_past : (limit + 1) * 10 ^ 6 ≤ keeps.size = great_from_kept keeps.size ((limit + 1) * 10 ^ 6) (omega arith) (omega arith) in
-    let whole_past : limit < keeps.size / 10 ^ 6 = omega arith in (
-      with_sign parts.negative (keeps.size / 10 ^ 6),
-      rounds_to_whole word parts kept h keeps none,
-      rw (unsigned_abs-with_sign parts.negative (keeps.size / 10 ^ 6)) whole_past,
-    )
-
-pub whole_within_kept : (word : List ℕ) (parts : Parts) (kept limit : ℕ) → HasParts word parts → KeepsNearest 6 parts kept → kept % 10 ^ 6 ≡ 0 → limit ≤ 1000000 → kept / 10 ^ 6 ≤ limit
-    → RoundsTo 6 word (with_sign parts.negative (kept / 10 ^ 6) *ℤ pos (10 ^ 6)) × (unsigned_abs (with_sign parts.negative (kept / 10 ^ 6)) ≤ limit)
-whole_within_kept word parts kept limit h keeps none bound within =
-    let small : keeps.size ≡ kept = kept_is_size 6 parts kept keeps (omega arith) in (
-      subst (λ n. RoundsTo 6 word (with_sign parts.negative (n / 10 ^ 6) *ℤ pos (10 ^ 6))) small (rounds_to_whole word parts kept h keeps none),
-      rw (unsigned_abs-with_sign parts.negative (kept / 10 ^ 6)) within,
-    )
-
-pub no_whole_past_kept : (word : List ℕ) (parts : Parts) (kept limit : ℕ) (whole : ℤ) → HasParts word parts → KeepsNearest 6 parts kept → limit ≤ 1000000 → kept / 10 ^ 6 ≤ limit
-    → RoundsTo 6 word (whole *ℤ pos (10 ^ 6)) → unsigned_abs whole ≤ limit
-no_whole_past_kept word parts kept limit whole h keeps bound within rounds =
-    let small : keeps.size ≡ kept = kept_is_size 6 parts kept keeps (omega arith) in
-    let size : unsigned_abs whole ≡ keeps.size / 10 ^ 6 = size_of_whole parts.negative keeps.size whole (sym (count_from_parts 6 word parts keeps.size _ h keeps.nearest rounds)) in
-    let same : keeps.size / 10 ^ 6 ≡ kept / 10 ^ 6 = ap (λ n. n / 10 ^ 6) small in
-    omega arith
+not_past_kept decimals word negative kept limit count k bound below rounds =
+    let size : k.keeps.size ≡ kept = kept_is_size decimals word negative kept k (omega arith) in
+    omega (arith, size_from_kept decimals word negative kept k count rounds)

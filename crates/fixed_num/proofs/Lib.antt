@@ -5,5 +5,8 @@ pub mod Decimals
 pub mod Kept
 pub mod Nearest
 pub mod Rounding
+pub mod Scales
 pub mod Steps
 pub mod Quotients
+pub mod Wholes
+pub mod Written

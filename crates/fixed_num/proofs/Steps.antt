@@ -1,5 +1,5 @@
 -- The reader's steps, over plain lists and numbers.
-use Rattle.std.proofs.Common.{◌≡◌, ℕ, ◌+◌, ◌*◌, ◌-◌, ◌^◌, ◌<◌, ◌≤◌, zero, suc, Bool, true, false, ltb, List, [], ◌∷◌, ◌++◌, length, take, get_or, min, refl, arith, sym, ap, ◌∙◌, ⊎_elim, subst, Option, Some, None, add-one}
+use Rattle.std.proofs.Common.{◌≡◌, ℕ, ◌+◌, ◌*◌, ◌-◌, ◌^◌, ◌<◌, ◌≤◌, zero, suc, Bool, true, false, ltb, List, [], ◌∷◌, ◌++◌, length, take, get_or, min, refl, arith, sym, ap, ◌∙◌, ⊎_elim, subst, Option, Some, None, Result, Ok, Err, IfOk, add-one}
 use Rattle.std.proofs.Math.Nat.{pow-suc, pow-le-pow_right}
 use Rattle.std.proofs.lemmas.Bool.{cases_lt}
 use Rattle.std.proofs.lemmas.Bool.Decides.{nat_tests}
@@ -128,6 +128,10 @@ IsReadable-from_parts word negative whole fraction lowers size h =
 pub weaker : {X : Type 0} (P Q : Type 0) (R S : X → Type 0) (o : Option X) → (P → Q) → ((x : X) → R x → S x) → MatchOption o P R → MatchOption o Q S
 weaker P Q R S None f g h = f h
 weaker P Q R S (Some x) f g h = g x h
+
+pub ok_weaker : {X E : Type 0} (R S : X → Type 0) (r : Result X E) → ((x : X) → R x → S x) → IfOk r R → IfOk r S
+ok_weaker R S (Ok x) g h = g x h
+ok_weaker R S (Err e) g h = h
 
 pub at_some : {X : Type 0} (P : Type 0) (R : X → Type 0) (o : Option X) (x : X) → o ≡ Some x → MatchOption o P R → R x
 at_some P R o x e h = subst (λ v. MatchOption v P R) e h

@@ -1,7 +1,9 @@
 pub mod Count
 pub mod DecimalValue
+pub mod Decimals
 pub mod Fraction
 pub mod NumberWord
 pub mod Quotient
 pub mod Scan
 pub mod Shortest
+pub mod Whole

@@ -4,7 +4,7 @@ use Rattle.std.specs.Prelude.{◌≡◌, ℕ, ◌+◌, ◌-◌, ◌*◌, ◌%◌
 use Rattle.std.specs.Char.{is_ascii_digit}
 use Rattle.std.specs.List.{list_all, prefix_len}
 use Rattle.std.specs.Str.Parse.{AllDigits, digits_value}
-use Rattle.fixed_num.specs.NumberWord.{Parts}
+use Rattle.fixed_num.specs.NumberWord.{Parts, HasParts}
 use Rattle.fixed_num.specs.DecimalValue.{IsNearest, numerator, denominator}
 
 -- the digits that the bytes begin with, and what stands behind them
@@ -88,6 +88,13 @@ pub record KeepsNearest (decimals : ℕ) (parts : Parts) (kept : ℕ) : Type 0 w
   pub size : ℕ
   pub nearest : IsNearest (numerator parts * 10 ^ decimals) (denominator parts) size
   pub is_squeezed : kept ≡ squeezed size
+
+-- kept stands, under this sign, for the count of a word
+pub record KeepsCount (decimals : ℕ) (word : List ℕ) (negative : Bool) (kept : ℕ) : Type 0 where
+  pub parts : Parts
+  pub has_parts : HasParts word parts
+  pub keeps : KeepsNearest decimals parts kept
+  pub is_signed : negative ≡ parts.negative
 
 -- the digits and the exponent of a number word are within these limits
 pub record IsReadable (whole fraction : List ℕ) (exponent : ℕ) : Type 0 where

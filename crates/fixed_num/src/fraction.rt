@@ -1,4 +1,5 @@
-// Reduced fractions.
+//! Reduced fractions.
+
 ghost use Rattle.std.specs.Prelude.{pos, ◌≤ℤ◌};
 ghost use Rattle.fixed_num.specs.Fraction.{IsReduced};
 

@@ -1,4 +1,5 @@
-// Counts of millionths.
+//! Counts of millionths.
+
 ghost use Rattle.std.specs.Prelude.{◌^◌, ◌<◌, ℤ, unsigned_abs};
 
 use std::marker::Model;

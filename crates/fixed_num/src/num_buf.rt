@@ -1,4 +1,5 @@
-// A buffer for the text of one number.
+//! A buffer for the text of one number.
+
 ghost use Rattle.std.specs.Prelude.{◌≡◌, ℕ, ◌+◌, ◌<◌, ◌≤◌, List, [], ◌∷◌, ◌++◌, length, take};
 
 use std::marker::Model;

@@ -1,4 +1,5 @@
-// Division without a remainder.
+//! Division without a remainder.
+
 ghost use Rattle.std.specs.Prelude.{pos, ℤ, ◌≢◌, ◌<ℤ◌, IfSome, IfNone};
 ghost use Rattle.fixed_num.specs.Quotient.{IsQuotientBelow};
 

@@ -1,4 +1,5 @@
-// The count of a number, rounded to so many decimals.
+//! The count of a number, rounded to so many decimals.
+
 ghost use Rattle.std.specs.Prelude.{◌≡◌, ℕ, ◌+◌, ◌*◌, ◌^◌, ◌<◌, ◌≤◌, ◌++◌, length, take, slice_index};
 ghost use Rattle.std.specs.Str.Parse.{AllDigits, digits_value_after};
 ghost use Rattle.fixed_num.specs.Scan.{squeezed, power_of, parts_of, places_kept, rounded_at, IsReadable, KeepsNearest};
@@ -99,13 +100,13 @@ fn rounded_at(whole: &[u8], fraction: &[u8], places: usize) -> u64
 }
 
 // How many digits stand before the last place of the unit; `None` where the first is behind the next.
-fn places(number: &Number<'_>, decimals: usize) -> Option<usize>
+fn places(number: &Number<'_>, decimals: u32) -> Option<usize>
     requires few { decimals ≤ 12 }
     requires readable { IsReadable number.now.whole.now number.now.fraction.now number.now.exponent.size }
     ensures { result ≡ places_kept (length number.now.whole.now + decimals)
         (power_of number.now.exponent.lowers number.now.exponent.size) }
 {
-    let ahead = number.whole.len() + decimals;
+    let ahead = number.whole.len() + decimals as usize;
     if number.exponent.lowers {
         ahead.checked_sub(number.exponent.size)
     } else {
@@ -115,7 +116,7 @@ fn places(number: &Number<'_>, decimals: usize) -> Option<usize>
 
 /// The size of a number as a count of units of so many decimals, rounded to the nearest, and halves
 /// away from zero: itself below `EXACT_BELOW`, and else with its last six digits.
-pub(crate) fn rounded(number: &Number<'_>, decimals: usize) -> u64
+pub(crate) fn rounded(number: &Number<'_>, decimals: u32) -> u64
     requires few { decimals ≤ 12 }
     requires readable { IsReadable number.now.whole.now number.now.fraction.now number.now.exponent.size }
     ensures { KeepsNearest decimals

@@ -1,4 +1,5 @@
-// Number words, cut into their parts from the left.
+//! Number words, cut into their parts from the left.
+
 ghost use Rattle.std.specs.Prelude.{◌≡◌, ◌<◌, ◌≤◌, length, IfSome, MatchOption};
 ghost use Rattle.std.specs.Char.{digit_value, is_ascii_digit};
 ghost use Rattle.std.specs.List.{list_all, prefix_len};

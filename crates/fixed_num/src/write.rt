@@ -1,14 +1,15 @@
-// Counts written as decimals.
+//! Counts written as decimals.
+
 ghost use Rattle.std.specs.Prelude.{◌≡◌, ◌+◌, ◌^◌, ◌<◌, ◌≤◌, ◌++◌, length, unsigned_abs};
 ghost use Rattle.fixed_num.specs.DecimalValue.{RoundsTo};
 ghost use Rattle.fixed_num.specs.Shortest.{IsShortest, minus_of, shortest_decimal, places, fraction_text};
 
 use crate::micro::Micro;
+use crate::nano::Nano;
 use crate::num_buf::NumBuf;
+use crate::pico::Pico;
+use crate::units::{MICRO_DECIMALS, NANO_DECIMALS, PICO_DECIMALS};
 use itoa::Buffer;
-
-// The decimals of a millionth.
-const MICRO_DECIMALS: u32 = 6;
 
 // The decimal places of the rest, up to the last one that is not 0.
 fn push_places(buf: &mut NumBuf, rest: u64, decimals: u32)
@@ -71,4 +72,22 @@ pub fn write_micro(value: Micro, buf: &mut NumBuf)
     ensures reads_back { RoundsTo 6 buf.new value }
 {
     write_count(value.0, MICRO_DECIMALS, buf);
+}
+
+/// The shortest decimal of a count of billionths, as `write_micro` writes those of millionths.
+pub fn write_nano(value: Nano, buf: &mut NumBuf)
+    ensures text { buf.new ≡ shortest_decimal 9 value }
+    ensures shortest { IsShortest 9 buf.new value }
+    ensures reads_back { RoundsTo 9 buf.new value }
+{
+    write_count(value.0, NANO_DECIMALS, buf);
+}
+
+/// The shortest decimal of a count of trillionths, as `write_micro` writes those of millionths.
+pub fn write_pico(value: Pico, buf: &mut NumBuf)
+    ensures text { buf.new ≡ shortest_decimal 12 value }
+    ensures shortest { IsShortest 12 buf.new value }
+    ensures reads_back { RoundsTo 12 buf.new value }
+{
+    write_count(value.0, PICO_DECIMALS, buf);
 }

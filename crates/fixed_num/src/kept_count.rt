@@ -1,0 +1,29 @@
+//! The count of a number word, whatever its size is.
+
+ghost use Rattle.std.specs.Prelude.{◌≤◌, MatchOption};
+ghost use Rattle.fixed_num.specs.NumberWord.{IsNumberWord};
+ghost use Rattle.fixed_num.specs.Scan.{KeepsCount};
+
+use crate::scale::rounded;
+use crate::word::read_number;
+
+/// A count by its sign and its size. A size from 10^18 on is kept by its last six digits.
+#[derive(Clone, Copy)]
+pub(crate) struct KeptCount {
+    pub(crate) negative: bool,
+    pub(crate) size: u64,
+}
+
+/// The value of a number word in units of so many decimals, rounded half away from zero; `None` for any
+/// other word.
+pub(crate) fn read_kept_count(word: &[u8], decimals: u32) -> Option<KeptCount>
+    requires few { decimals ≤ 12 }
+    ensures { MatchOption result (¬ IsNumberWord word.now)
+        (λ kept. KeepsCount decimals word.now kept.negative kept.size) }
+{
+    let number = read_number(word)?;
+    Some(KeptCount {
+        negative: number.negative,
+        size: rounded(&number, decimals),
+    })
+}
