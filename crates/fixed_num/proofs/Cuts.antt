@@ -21,7 +21,7 @@ BeginsWithNoDigit (b ∷ bytes) = is_ascii_digit b ≡ false
 pub is_digit-from_value : (c : ℕ) → digit_value c < 10 → is_ascii_digit c ≡ true
 is_digit-from_value c h = let range : IsInRange 48 57 c = digit_from_value c h in grind (arith, nat_tests)
 
-value-from_is_digit : (c : ℕ) → is_ascii_digit c ≡ true → digit_value c < 10
+pub value-from_is_digit : (c : ℕ) → is_ascii_digit c ≡ true → digit_value c < 10
 value-from_is_digit c h = grind (arith, nat_tests)
 
 prefix_len_of_digits : (ds rest : List ℕ) → AllDigits 10 ds → BeginsWithNoDigit rest → prefix_len is_ascii_digit (ds ++ rest) ≡ length ds
@@ -208,6 +208,10 @@ IsSign-sign_piece : (word : List ℕ) → IsSign (sign_piece word) (starts_with_
 unfolding sign_piece
 IsSign-sign_piece [] = inl refl
 IsSign-sign_piece (b ∷ bytes) = IsSign-first b bytes
+
+-- a word is cut behind its sign
+pub sign_of : (word : List ℕ) → (sign : List ℕ) × (word ≡ sign ++ behind_sign word) × IsSign sign (starts_with_minus word)
+sign_of word = (sign_piece word, sign_joined word, IsSign-sign_piece word)
 
 pointed_piece : List ℕ → List ℕ
 pointed_piece [] = []

@@ -4,6 +4,7 @@ pub mod Cuts
 pub mod Decimals
 pub mod Kept
 pub mod Nearest
+pub mod Plain
 pub mod Rounding
 pub mod Scales
 pub mod Steps

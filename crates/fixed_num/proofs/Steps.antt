@@ -1,5 +1,5 @@
 -- The reader's steps, over plain lists and numbers.
-use Rattle.std.proofs.Common.{◌≡◌, ℕ, ◌+◌, ◌*◌, ◌-◌, ◌^◌, ◌<◌, ◌≤◌, zero, suc, Bool, true, false, ltb, List, [], ◌∷◌, ◌++◌, length, take, get_or, min, refl, arith, sym, ap, ◌∙◌, ⊎_elim, subst, Option, Some, None, Result, Ok, Err, IfOk, add-one}
+use Rattle.std.proofs.Common.{◌≡◌, ℕ, ◌+◌, ◌*◌, ◌-◌, ◌^◌, ◌<◌, ◌≤◌, zero, suc, Bool, true, false, ltb, List, [], ◌∷◌, ◌++◌, length, take, get_or, min, refl, arith, sym, ap, ◌∙◌, ⊎_elim, subst, Option, Some, None, Result, Ok, Err, IfSome, IfOk, add-one}
 use Rattle.std.proofs.Math.Nat.{pow-suc, pow-le-pow_right}
 use Rattle.std.proofs.lemmas.Bool.{cases_lt}
 use Rattle.std.proofs.lemmas.Bool.Decides.{nat_tests}
@@ -45,7 +45,7 @@ take_nil_append : (n : ℕ) (ys : List ℕ) → take n ys ≡ take n [] ++ take 
 take_nil_append zero ys = refl
 take_nil_append (suc n) ys = refl
 
-take-append : (n : ℕ) (xs ys : List ℕ) → take n (xs ++ ys) ≡ take n xs ++ take (n - length xs) ys
+pub take-append : (n : ℕ) (xs ys : List ℕ) → take n (xs ++ ys) ≡ take n xs ++ take (n - length xs) ys
 take-append n [] ys = let same : n ≡ n - 0 = omega arith in take_nil_append n ys ∙ ap (λ k. take n [] ++ take k ys) same
 take-append zero (x ∷ xs) ys = let same : 0 ≡ 0 - suc (length xs) = omega arith in ap (λ k. take k ys) same
 take-append (suc n) (x ∷ xs) ys =
@@ -105,7 +105,7 @@ small_power text lowers exponent h =
     let value : exponent ≡ digits_value 10 w.digits = w.value in
     omega arith) h
 
-fraction_of_pointed : (pointed fraction : List ℕ) → IsPointed pointed fraction → AllDigits 10 fraction × (length fraction ≤ length pointed)
+pub fraction_of_pointed : (pointed fraction : List ℕ) → IsPointed pointed fraction → AllDigits 10 fraction × (length fraction ≤ length pointed)
 fraction_of_pointed pointed fraction h =
     ⊎_elim (λ e. rw (e.1) (tt, omega arith)) (λ e. (e.1, let len : length pointed ≡ suc (length fraction) = ap length (e.0) in omega arith)) h
 
@@ -128,6 +128,10 @@ IsReadable-from_parts word negative whole fraction lowers size h =
 pub weaker : {X : Type 0} (P Q : Type 0) (R S : X → Type 0) (o : Option X) → (P → Q) → ((x : X) → R x → S x) → MatchOption o P R → MatchOption o Q S
 weaker P Q R S None f g h = f h
 weaker P Q R S (Some x) f g h = g x h
+
+pub some_weaker : {X : Type 0} (R S : X → Type 0) (o : Option X) → ((x : X) → R x → S x) → IfSome o R → IfSome o S
+some_weaker R S None g h = h
+some_weaker R S (Some x) g h = g x h
 
 pub ok_weaker : {X E : Type 0} (R S : X → Type 0) (r : Result X E) → ((x : X) → R x → S x) → IfOk r R → IfOk r S
 ok_weaker R S (Ok x) g h = g x h

@@ -3,6 +3,7 @@ pub mod DecimalValue
 pub mod Decimals
 pub mod Fraction
 pub mod NumberWord
+pub mod PlainWord
 pub mod Quotient
 pub mod Scan
 pub mod Shortest

@@ -15,6 +15,7 @@ mod micro;
 mod nano;
 mod num_buf;
 mod pico;
+mod plain_word;
 mod quotient;
 mod read;
 mod scale;

@@ -6,14 +6,14 @@ ghost use Rattle.fixed_num.specs.Scan.{squeezed, power_of, parts_of, places_kept
 
 use crate::word::{Number, digit_of};
 
-/// Counts below this are kept as they are.
+// Counts below this are kept as they are.
 const EXACT_BELOW: u64 = 1_000_000_000_000_000_000;
 // Of greater ones the last six digits are kept.
 const KEPT_REST: u64 = 1_000_000;
 // So many zeros make any count but 0 a great one.
 const MAX_ZEROS: usize = 18;
-// Digits from this on are rounded up: half of ten.
-const HALF: u8 = b'5';
+/// Digits from this on are rounded up: half of ten.
+pub(crate) const HALF: u8 = b'5';
 
 fn squeezed(count: u64) -> u64
     ensures value { result ≡ squeezed count }

@@ -7,8 +7,8 @@ ghost use Rattle.std.specs.Str.Parse.{AllDigits, digits_value};
 ghost use Rattle.fixed_num.specs.Scan.{digits_front, behind_digits, starts_with_minus, behind_sign, fraction_front, behind_fraction, power_of, short_number, written_power, scan_power, scan_unsigned, parts_of, IsReadable};
 ghost use Rattle.fixed_num.specs.NumberWord.{IsNumberWord, HasParts};
 
-// The longest number word.
-const MAX_LEN: usize = 64;
+/// The longest number word.
+pub(crate) const MAX_LEN: usize = 64;
 // The most digits of an exponent.
 const MAX_EXPONENT_LEN: usize = 4;
 
@@ -28,7 +28,8 @@ pub(crate) struct Number<'a> {
     pub(crate) exponent: Exponent,
 }
 
-fn split_sign(bytes: &[u8]) -> (bool, &[u8])
+/// Whether a minus stands in front, and what stands behind a sign.
+pub(crate) fn split_sign(bytes: &[u8]) -> (bool, &[u8])
     ensures negative { result.0 ≡ starts_with_minus bytes.now }
     ensures rest { result.1.now ≡ behind_sign bytes.now }
 {
@@ -48,7 +49,8 @@ fn digit_count(bytes: &[u8]) -> usize
         .count()
 }
 
-fn all_digits(bytes: &[u8]) -> bool
+/// Whether each byte is a digit.
+pub(crate) fn all_digits(bytes: &[u8]) -> bool
     ensures { result ≡ list_all is_ascii_digit bytes.now }
 {
     bytes.iter().all(|byte| byte.is_ascii_digit())
