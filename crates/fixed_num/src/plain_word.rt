@@ -28,6 +28,28 @@ fn continued(value: u64, bytes: &[u8], most: usize) -> (u64, usize)
     (total, count)
 }
 
+// One, as a count of units of so many decimals: a table, and so faster than `pow`.
+fn power_of_ten(decimals: u32) -> u64
+    requires few { decimals ≤ 12 }
+    ensures { result ≡ 10 ^ decimals }
+{
+    match decimals {
+        0 => 1,
+        1 => 10,
+        2 => 100,
+        3 => 1_000,
+        4 => 10_000,
+        5 => 100_000,
+        6 => 1_000_000,
+        7 => 10_000_000,
+        8 => 100_000_000,
+        9 => 1_000_000_000,
+        10 => 10_000_000_000,
+        11 => 100_000_000_000,
+        _ => 1_000_000_000_000,
+    }
+}
+
 // What stands behind a point, and nothing behind nothing; `None` for anything else.
 fn behind_point(bytes: &[u8]) -> Option<&[u8]>
     ensures { IfSome result (λ rest. IsBehindPoint bytes.now rest.now) }
@@ -48,7 +70,7 @@ fn rounded_behind(whole: u64, fraction: &[u8], decimals: u32) -> Option<u64>
     let (total, count) = continued(whole, fraction, decimals as usize);
     let behind = &fraction[count..];
     if behind.is_empty() {
-        return Some(total * 10u64.pow(decimals - count as u32));
+        return Some(total * power_of_ten(decimals - count as u32));
     }
     if count as u32 != decimals || !all_digits(behind) {
         return None;

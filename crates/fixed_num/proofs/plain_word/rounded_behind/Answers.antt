@@ -8,12 +8,12 @@ use Rattle.fixed_num.proofs.plain_word.rounded_behind.Goals as goal
 pub overflow_mul-result : goal.overflow_mul-result
 overflow_mul-result c =
     let fits : c.continued-total.result.0 * 10 ^ (c.args.decimals - c.continued-total.result.1) ≤ 10 ^ 18 = size_fits c.args.whole c.args.fraction.now c.args.decimals _ _ c.requires.few c.requires.small c.continued-total.ensures in
-    let power : c.pow.result ≡ 10 ^ (c.args.decimals - c.continued-total.result.1) = c.pow.ensures in
+    let power : c.power_of_ten.result ≡ 10 ^ (c.args.decimals - c.continued-total.result.1) = c.power_of_ten.ensures in
     rw power (omega arith)
 
 pub returns-then-is_empty : goal.returns-then-is_empty
 returns-then-is_empty c =
-    let power : c.pow.result ≡ 10 ^ (c.args.decimals - c.continued-total.result.1) = c.pow.ensures in
+    let power : c.power_of_ten.result ≡ 10 ^ (c.args.decimals - c.continued-total.result.1) = c.power_of_ten.ensures in
     let none : length c.args.fraction.now ≤ c.continued-total.result.1 = none_behind _ _ c.if-is_empty.ensures in
     rw power (rounded_behind_all c.args.whole c.args.fraction.now c.args.decimals _ _ c.requires.few c.requires.small c.continued-total.ensures none)
 
