@@ -175,7 +175,7 @@ first_of ps f a e w E L =
     let g = border f a e in let d = minus e a in
     let p = L.it in let o = was_on f g p L.ahead in
     let below : (q : Vector) → q ∈ ps → side f (whole_point q) ≡ pos 0 → side g (whole_point q) ≡ pos 0 → dot p d ≤ℤ dot q d =
-        λ q i z y. let one = is_on f g q z y in let two = is_on f g p o.0 o.1 in let k = (L.below q i (rw one (omega (arith, ints)))).le in let m = rw (one, two) at k in omega (arith, ints) in
+    λ q i z y. let one = is_on f g q z y in let two = is_on f g p o.0 o.1 in let k = (L.below q i (rw one (omega (arith, ints)))).le in let m = rw (one, two) at k in omega (arith, ints) in
     let l : pos 0 <ℤ dot (minus e p) d = let b = below a E.a_in E.a_on (border-first f a e) in let r = less-dot a p e d in let far = E.apart in omega (arith, ints) in
     let far = nonzero (minus e p) d l in
     let S = starts_at ps f a e p w E L.among o.0 o.1 l far in record {
