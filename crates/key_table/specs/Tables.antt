@@ -10,7 +10,8 @@ command_words =
     codes "uv" ∷ codes "convert" ∷ codes "entity" ∷ codes "set" ∷ codes "unset" ∷ codes "tie" ∷
     codes "untie" ∷ codes "layer" ∷ codes "freeze" ∷ codes "thaw" ∷ codes "group" ∷
     codes "ungroup" ∷ codes "into" ∷ codes "link" ∷ codes "unlink" ∷ codes "protect" ∷
-    codes "unprotect" ∷ codes "undo" ∷ codes "redo" ∷ codes "show" ∷ codes "tree" ∷ []
+    codes "unprotect" ∷ codes "undo" ∷ codes "redo" ∷ codes "show" ∷ codes "tree" ∷
+    codes "pick" ∷ codes "touching" ∷ []
 
 -- the keys of a map file that the program itself writes
 abbrev pub file_words : List (List ℕ)

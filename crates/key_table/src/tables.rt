@@ -12,14 +12,15 @@ macro_rules! keys {
 }
 
 /// The words that begin a script's lines, each command's at its place.
-pub fn command_keys() -> Keys<38>
+pub fn command_keys() -> Keys<40>
     ensures { result ≡ command_words }
 {
     keys! {
         b"box" b"hull" b"delete" b"copy" b"move" b"turn" b"flip" b"clip" b"subtract" b"intersect"
         b"merge" b"hollow" b"vertex" b"snap" b"material" b"tex" b"lock" b"uv" b"convert" b"entity"
         b"set" b"unset" b"tie" b"untie" b"layer" b"freeze" b"thaw" b"group" b"ungroup" b"into"
-        b"link" b"unlink" b"protect" b"unprotect" b"undo" b"redo" b"show" b"tree"
+        b"link" b"unlink" b"protect" b"unprotect" b"undo" b"redo" b"show" b"tree" b"pick"
+        b"touching"
     }
 }
 

@@ -18,7 +18,8 @@ fn each_word_has_its_place(rt: HostRuntime) {
     let commands =
         "box hull delete copy move turn flip clip subtract intersect merge hollow vertex \
                     snap material tex lock uv convert entity set unset tie untie layer freeze thaw \
-                    group ungroup into link unlink protect unprotect undo redo show tree";
+                    group ungroup into link unlink protect unprotect undo redo show tree \
+                    pick touching";
     assert!(rt; finds_all(&command_keys(), commands));
     let files = "_tb_type _tb_name _tb_id _tb_layer _tb_group _tb_layer_locked _tb_linked_group_id \
                  _tb_transformation _tb_protected_properties mapversion";

@@ -14,7 +14,7 @@ unwrap-requires c = is_made _ command_words _ c.of.ensures.twins (λ i.
     c.known-25.ensures i ∷ c.known-26.ensures i ∷ c.known-27.ensures i ∷ c.known-28.ensures i ∷
     c.known-29.ensures i ∷ c.known-30.ensures i ∷ c.known-31.ensures i ∷ c.known-32.ensures i ∷
     c.known-33.ensures i ∷ c.known-34.ensures i ∷ c.known-35.ensures i ∷ c.known-36.ensures i ∷
-    c.known-37.ensures i ∷ c.known-38.ensures i ∷ []) refl
+    c.known-37.ensures i ∷ c.known-38.ensures i ∷ c.known-39.ensures i ∷ c.known-40.ensures i ∷ []) refl
 
 pub returns : goal.returns
 returns c = made_is _ command_words _ _ c.of.ensures.words (λ i.
@@ -27,4 +27,4 @@ returns c = made_is _ command_words _ _ c.of.ensures.words (λ i.
     c.known-25.ensures i ∷ c.known-26.ensures i ∷ c.known-27.ensures i ∷ c.known-28.ensures i ∷
     c.known-29.ensures i ∷ c.known-30.ensures i ∷ c.known-31.ensures i ∷ c.known-32.ensures i ∷
     c.known-33.ensures i ∷ c.known-34.ensures i ∷ c.known-35.ensures i ∷ c.known-36.ensures i ∷
-    c.known-37.ensures i ∷ c.known-38.ensures i ∷ []) c.unwrap.ensures
+    c.known-37.ensures i ∷ c.known-38.ensures i ∷ c.known-39.ensures i ∷ c.known-40.ensures i ∷ []) c.unwrap.ensures
