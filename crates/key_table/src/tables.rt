@@ -1,5 +1,5 @@
 //! The program's two tables.
-ghost use Rattle.std.specs.Prelude.{◌≡◌, ◌≤◌, length};
+ghost use Rattle.std.specs.Prelude.{◌≡◌};
 ghost use Rattle.key_table.specs.Tables.{command_words, file_words};
 
 use crate::keys::Keys;
@@ -7,7 +7,7 @@ use crate::word::Word;
 
 macro_rules! keys {
     ($($word:literal)*) => {
-        Keys::of([$(known($word)),*]).unwrap()
+        Keys::of([$(Word::known($word)),*]).unwrap()
     };
 }
 
@@ -32,12 +32,4 @@ pub fn file_keys() -> Keys<10>
         b"_tb_type" b"_tb_name" b"_tb_id" b"_tb_layer" b"_tb_group" b"_tb_layer_locked"
         b"_tb_linked_group_id" b"_tb_transformation" b"_tb_protected_properties" b"mapversion"
     }
-}
-
-// The word of a text that is known to be short.
-fn known(text: &[u8]) -> Word
-    requires { length text.now ≤ 32 }
-    ensures { result ≡ text.now }
-{
-    Word::of(text).unwrap()
 }

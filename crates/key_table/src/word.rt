@@ -48,6 +48,14 @@ impl Word {
         })
     }
 
+    /// The word of a text that is known to be short.
+    pub fn known(text: &[u8]) -> Word
+        requires short { length text.now ≤ 32 }
+        ensures text { result ≡ text.now }
+    {
+        Word::of(text).unwrap()
+    }
+
     /// The text.
     pub fn bytes(&self) -> &[u8]
         ensures text { result.now ≡ self.now }

@@ -5,26 +5,26 @@ use Rattle.key_table.proofs.tables.command_keys.Goals as goal
 
 pub unwrap-requires : goal.unwrap-requires
 unwrap-requires c = is_made _ command_words _ c.of.ensures.twins (λ i.
-    c.known.ensures i ∷ c.known-2.ensures i ∷ c.known-3.ensures i ∷ c.known-4.ensures i ∷
-    c.known-5.ensures i ∷ c.known-6.ensures i ∷ c.known-7.ensures i ∷ c.known-8.ensures i ∷
-    c.known-9.ensures i ∷ c.known-10.ensures i ∷ c.known-11.ensures i ∷ c.known-12.ensures i ∷
-    c.known-13.ensures i ∷ c.known-14.ensures i ∷ c.known-15.ensures i ∷ c.known-16.ensures i ∷
-    c.known-17.ensures i ∷ c.known-18.ensures i ∷ c.known-19.ensures i ∷ c.known-20.ensures i ∷
-    c.known-21.ensures i ∷ c.known-22.ensures i ∷ c.known-23.ensures i ∷ c.known-24.ensures i ∷
-    c.known-25.ensures i ∷ c.known-26.ensures i ∷ c.known-27.ensures i ∷ c.known-28.ensures i ∷
-    c.known-29.ensures i ∷ c.known-30.ensures i ∷ c.known-31.ensures i ∷ c.known-32.ensures i ∷
-    c.known-33.ensures i ∷ c.known-34.ensures i ∷ c.known-35.ensures i ∷ c.known-36.ensures i ∷
-    c.known-37.ensures i ∷ c.known-38.ensures i ∷ c.known-39.ensures i ∷ c.known-40.ensures i ∷ []) refl
+    c.known.ensures.text i ∷ c.known-2.ensures.text i ∷ c.known-3.ensures.text i ∷ c.known-4.ensures.text i ∷
+    c.known-5.ensures.text i ∷ c.known-6.ensures.text i ∷ c.known-7.ensures.text i ∷ c.known-8.ensures.text i ∷
+    c.known-9.ensures.text i ∷ c.known-10.ensures.text i ∷ c.known-11.ensures.text i ∷ c.known-12.ensures.text i ∷
+    c.known-13.ensures.text i ∷ c.known-14.ensures.text i ∷ c.known-15.ensures.text i ∷ c.known-16.ensures.text i ∷
+    c.known-17.ensures.text i ∷ c.known-18.ensures.text i ∷ c.known-19.ensures.text i ∷ c.known-20.ensures.text i ∷
+    c.known-21.ensures.text i ∷ c.known-22.ensures.text i ∷ c.known-23.ensures.text i ∷ c.known-24.ensures.text i ∷
+    c.known-25.ensures.text i ∷ c.known-26.ensures.text i ∷ c.known-27.ensures.text i ∷ c.known-28.ensures.text i ∷
+    c.known-29.ensures.text i ∷ c.known-30.ensures.text i ∷ c.known-31.ensures.text i ∷ c.known-32.ensures.text i ∷
+    c.known-33.ensures.text i ∷ c.known-34.ensures.text i ∷ c.known-35.ensures.text i ∷ c.known-36.ensures.text i ∷
+    c.known-37.ensures.text i ∷ c.known-38.ensures.text i ∷ c.known-39.ensures.text i ∷ c.known-40.ensures.text i ∷ []) refl
 
 pub returns : goal.returns
 returns c = made_is _ command_words _ _ c.of.ensures.words (λ i.
-    c.known.ensures i ∷ c.known-2.ensures i ∷ c.known-3.ensures i ∷ c.known-4.ensures i ∷
-    c.known-5.ensures i ∷ c.known-6.ensures i ∷ c.known-7.ensures i ∷ c.known-8.ensures i ∷
-    c.known-9.ensures i ∷ c.known-10.ensures i ∷ c.known-11.ensures i ∷ c.known-12.ensures i ∷
-    c.known-13.ensures i ∷ c.known-14.ensures i ∷ c.known-15.ensures i ∷ c.known-16.ensures i ∷
-    c.known-17.ensures i ∷ c.known-18.ensures i ∷ c.known-19.ensures i ∷ c.known-20.ensures i ∷
-    c.known-21.ensures i ∷ c.known-22.ensures i ∷ c.known-23.ensures i ∷ c.known-24.ensures i ∷
-    c.known-25.ensures i ∷ c.known-26.ensures i ∷ c.known-27.ensures i ∷ c.known-28.ensures i ∷
-    c.known-29.ensures i ∷ c.known-30.ensures i ∷ c.known-31.ensures i ∷ c.known-32.ensures i ∷
-    c.known-33.ensures i ∷ c.known-34.ensures i ∷ c.known-35.ensures i ∷ c.known-36.ensures i ∷
-    c.known-37.ensures i ∷ c.known-38.ensures i ∷ c.known-39.ensures i ∷ c.known-40.ensures i ∷ []) c.unwrap.ensures
+    c.known.ensures.text i ∷ c.known-2.ensures.text i ∷ c.known-3.ensures.text i ∷ c.known-4.ensures.text i ∷
+    c.known-5.ensures.text i ∷ c.known-6.ensures.text i ∷ c.known-7.ensures.text i ∷ c.known-8.ensures.text i ∷
+    c.known-9.ensures.text i ∷ c.known-10.ensures.text i ∷ c.known-11.ensures.text i ∷ c.known-12.ensures.text i ∷
+    c.known-13.ensures.text i ∷ c.known-14.ensures.text i ∷ c.known-15.ensures.text i ∷ c.known-16.ensures.text i ∷
+    c.known-17.ensures.text i ∷ c.known-18.ensures.text i ∷ c.known-19.ensures.text i ∷ c.known-20.ensures.text i ∷
+    c.known-21.ensures.text i ∷ c.known-22.ensures.text i ∷ c.known-23.ensures.text i ∷ c.known-24.ensures.text i ∷
+    c.known-25.ensures.text i ∷ c.known-26.ensures.text i ∷ c.known-27.ensures.text i ∷ c.known-28.ensures.text i ∷
+    c.known-29.ensures.text i ∷ c.known-30.ensures.text i ∷ c.known-31.ensures.text i ∷ c.known-32.ensures.text i ∷
+    c.known-33.ensures.text i ∷ c.known-34.ensures.text i ∷ c.known-35.ensures.text i ∷ c.known-36.ensures.text i ∷
+    c.known-37.ensures.text i ∷ c.known-38.ensures.text i ∷ c.known-39.ensures.text i ∷ c.known-40.ensures.text i ∷ []) c.unwrap.ensures
