@@ -1,0 +1,12 @@
+pub mod Counts
+pub mod CutLaws
+pub mod Digits
+pub mod Drops
+pub mod Lefts
+pub mod LineLaws
+pub mod Meanings
+pub mod ReplyLaws
+pub mod RuleLaws
+pub mod Sizes
+pub mod Texts
+pub mod Wides

@@ -1,0 +1,11 @@
+pub mod Commands
+pub mod Cut
+pub mod Kept
+pub mod Lines
+pub mod Meaning
+pub mod Pieces
+pub mod Reading
+pub mod Replies
+pub mod Rule
+pub mod Spelling
+pub mod Table
