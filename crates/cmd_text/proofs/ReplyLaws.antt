@@ -3,7 +3,7 @@ use Rattle.std.proofs.Common.{◌≡◌, ◌≢◌, ℕ, zero, suc, List, [], �
 use Rattle.cmd_text.specs.declared.reply.Refusal.{Refusal}
 use Rattle.cmd_text.specs.declared.reply.Refusal.TheVariants.{LineTooLong}
 use Rattle.cmd_text.specs.declared.reply.Reply.{Reply}
-use Rattle.cmd_text.specs.declared.reply.Reply.TheVariants.{Ok, Made, Uv, Hit, NoHit, No, Memory}
+use Rattle.cmd_text.specs.declared.reply.Reply.TheVariants.{No, Memory}
 use Rattle.cmd_text.specs.Lines.{Words, spaced, line_text}
 use Rattle.cmd_text.specs.Replies.{refusal_words, reply_words, reply_line, OnlyWantSaysMemory}
 

@@ -1,5 +1,5 @@
 -- The rule of the first misfit, and what it means.
-use Rattle.std.proofs.Common.{◌≡◌, ◌↔◌, ℕ, ◌+◌, inl, inr, Bool, true, false, cond, List, [], ◌∷◌, ◌++◌, length, drop, Option, Some, None, map, codes, refl, sym, ap, ◌∙◌, subst, arith}
+use Rattle.std.proofs.Common.{◌≡◌, ◌↔◌, ℕ, ◌+◌, inl, inr, Bool, true, false, cond, List, [], ◌∷◌, ◌++◌, length, drop, Option, Some, None, codes, refl, sym, ap, ◌∙◌, subst, arith}
 use Rattle.std.specs.Str.{bytes_eq}
 use Rattle.std.proofs.lemmas.Slice.Eq.{bytes_eq-Decides}
 use Rattle.fixed_num.specs.Count.{is_number_word, count_of}
@@ -11,7 +11,7 @@ use Rattle.cmd_text.specs.declared.kinds.More.TheVariants.{End, Nodes, Points, S
 use Rattle.cmd_text.specs.declared.verb.Verb.{Verb}
 use Rattle.cmd_text.specs.Spelling.{number_of, number_within, signed_of, whole_within, plain_number_within, grid_of, axis_of, part_of, switch_of, is_name, is_dash, count_below, wide_of}
 use Rattle.cmd_text.specs.Table.{point, words_of, fits, group_of, wanted, follows, fits_first, misfit_from, misfit_of}
-use Rattle.cmd_text.specs.Rule.{dashes, surface_kinds, Repeats, MayFollow, AreOf, all_of, AreRightFrom, AreRight, StopsAt, IsFirstMisfit}
+use Rattle.cmd_text.specs.Rule.{dashes, surface_kinds, MayFollow, AreOf, all_of, AreRightFrom, AreRight, StopsAt, IsFirstMisfit}
 
 -- a word that fits, one at a time
 pub went_on : (t : Bool) (later : Option ℕ) (place : ℕ) → cond t later (Some place) ≡ None → (t ≡ true) × (later ≡ None)

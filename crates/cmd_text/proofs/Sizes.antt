@@ -1,11 +1,11 @@
 -- How many nodes and points a command has.
-use Rattle.std.proofs.Common.{◌≡◌, ℕ, zero, suc, ◌+◌, ◌-◌, ◌≤◌, Bool, true, false, cond, List, [], ◌∷◌, length, drop, Option, Some, None, map, unwrap_or, length-drop, refl, sym, ap, ◌∙◌, arith}
+use Rattle.std.proofs.Common.{◌≡◌, ℕ, ◌+◌, ◌≤◌, List, [], ◌∷◌, length, drop, None, unwrap_or, length-drop, arith}
 use Rattle.std.proofs.lemmas.List.{length-map}
 use Rattle.cmd_text.specs.declared.kinds.Kind.{Kind}
 use Rattle.cmd_text.specs.declared.kinds.More.{More}
 use Rattle.cmd_text.specs.declared.verb.Verb.{Verb}
 use Rattle.cmd_text.specs.declared.verb.Verb.TheVariants.{Hull, Delete, Copy, Move, Turn, Flip, Clip, Subtract, Intersect, Merge, Hollow, Vertex, Snap, Tie, Untie, Group, Ungroup, Into}
-use Rattle.cmd_text.specs.Commands.{command_of, numbers, numbers_from, points, points_from}
+use Rattle.cmd_text.specs.Commands.{command_of, numbers_from, points, points_from}
 use Rattle.cmd_text.specs.Kept.{KeepsCounts}
 use Rattle.cmd_text.specs.Spelling.{number_of}
 use Rattle.cmd_text.specs.Table.{words_of, fits, misfit_from, misfit_of}

@@ -1,5 +1,5 @@
 -- The whole number of a word, from what its reader says.
-use Rattle.std.proofs.Common.{◌≡◌, ◌≢◌, ◌↔◌, ℕ, ◌^◌, ◌<◌, Bool, true, false, cond, List, Option, Some, None, Result, Ok, Err, IfOk, ℤ, pos, negsuc, ◌*ℤ◌, int_div, refl, sym, ap, ◌∙◌, arith}
+use Rattle.std.proofs.Common.{◌≡◌, ◌≢◌, ◌↔◌, ℕ, ◌^◌, ◌<◌, Bool, true, false, cond, List, Option, Some, None, Result, Ok, Err, IfOk, ℤ, pos, negsuc, ◌*ℤ◌, int_div, refl, sym, ◌∙◌, arith}
 use Rattle.std.specs.Prelude.{int_rem}
 use Rattle.std.specs.Ordering.{int_eq}
 use Rattle.std.proofs.lemmas.Bool.Decides.{nat_tests, Decides-int_eq}

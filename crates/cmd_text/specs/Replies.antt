@@ -1,7 +1,6 @@
 -- The lines of replies.
 use Rattle.std.specs.Prelude.{◌≡◌, ◌≢◌, ℕ, ◌==◌, if◌then◌else◌, List, [], ◌∷◌, ◌++◌, Option, Some, None, map, codes}
 use Rattle.std.specs.Fmt.{decimal}
-use Rattle.fixed_num.specs.declared.fraction.Frac.{Frac}
 use Rattle.cmd_text.specs.declared.reply.Refusal.{Refusal}
 use Rattle.cmd_text.specs.declared.reply.Refusal.TheVariants.{LineTooLong, UnknownCommand, Arguments, NotBuilt, NoNode, Repeated, WrongKind, NestedIds, LockedLayer, TwoMembers, ReservedKey, NoKey, NotLinked, NestedLink, LockNeedsValve, Rotation, FlatPlane, PlaneMisses, Apart, NotBox, Thick, NoVertex, FractionalVertex, TooManyPoints, PointRange, NoVolume, TooManyFaces, OutOfWorld, LockOffset, Origin, ShiftRange, EmptyLink, Full, LinkPoint, LinkWorld, LinkLock, LinkOrigin, LinkShift, NothingToUndo, NothingToRedo, NoRay}
 use Rattle.cmd_text.specs.declared.reply.Reply.{Reply}
