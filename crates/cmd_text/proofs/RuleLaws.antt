@@ -13,6 +13,10 @@ use Rattle.cmd_text.specs.Spelling.{number_of, number_within, signed_of, whole_w
 use Rattle.cmd_text.specs.Table.{point, words_of, fits, group_of, wanted, follows, fits_first, misfit_from, misfit_of}
 use Rattle.cmd_text.specs.Rule.{dashes, surface_kinds, MayFollow, AreOf, all_of, AreRightFrom, AreRight, StopsAt, IsFirstMisfit}
 
+append_nothing : {A : Type 0} (xs : List A) → xs ++ [] ≡ xs
+append_nothing [] = refl
+append_nothing (x ∷ xs) = ap (λ l. x ∷ l) (append_nothing xs)
+
 -- a word that fits, one at a time
 pub went_on : (t : Bool) (later : Option ℕ) (place : ℕ) → cond t later (Some place) ≡ None → (t ≡ true) × (later ≡ None)
 went_on true later place e = (refl, e)
@@ -268,3 +272,54 @@ first_misfit_law verb words place e =
       begins_right = found.begins_right;
       stops = found.stops;
     }
+
+-- ---- there is one first misfit
+
+-- behind a first word
+stops_from : (Right : List (List ℕ) → Type 0) (w x : List ℕ) (c s : List (List ℕ)) → x ≡ w → StopsAt Right (x ∷ c) s → StopsAt (λ others. Right (w ∷ others)) c s
+stops_from Right w x c [] head stops = λ right. stops (subst (λ y. Right (y ∷ c)) (sym head) right)
+stops_from Right w x c (next ∷ s) head stops = λ others right. stops others (subst (λ y. Right (y ∷ (c ++ next ∷ others))) (sym head) right)
+
+-- the words before two of them are as many
+same_before : (Right : List (List ℕ) → Type 0) (b c r s o p words : List (List ℕ)) → words ≡ b ++ r → words ≡ c ++ s → Right (b ++ o) → Right (c ++ p) → StopsAt Right b r → StopsAt Right c s → length b ≡ length c
+same_before Right [] [] r s o p words u v f g k l = refl
+same_before Right [] (w ∷ c) [] s o p words u v f g k l = let no : [] ≡ w ∷ (c ++ s) = sym u ∙ v in absurd (cc)
+same_before Right [] (w ∷ c) (x ∷ r) s o p words u v f g k l =
+    let same : x ∷ r ≡ w ∷ (c ++ s) = sym u ∙ v in
+    let head : w ≡ x = cc in
+    absurd (k (c ++ p) (subst (λ y. Right (y ∷ (c ++ p))) head g))
+same_before Right (w ∷ b) [] r [] o p words u v f g k l = let no : [] ≡ w ∷ (b ++ r) = sym v ∙ u in absurd (cc)
+same_before Right (w ∷ b) [] r (x ∷ s) o p words u v f g k l =
+    let same : x ∷ s ≡ w ∷ (b ++ r) = sym v ∙ u in
+    let head : w ≡ x = cc in
+    absurd (l (b ++ o) (subst (λ y. Right (y ∷ (b ++ o))) head f))
+same_before Right (w ∷ b) (x ∷ c) r s o p words u v f g k l =
+    let same : w ∷ (b ++ r) ≡ x ∷ (c ++ s) = sym u ∙ v in
+    let head : x ≡ w = cc in
+    let rest : b ++ r ≡ c ++ s = cc in
+    let later : StopsAt (λ others. Right (w ∷ others)) c s = stops_from Right w x c s head l in
+    let e : length b ≡ length c =
+    same_before (λ others. Right (w ∷ others)) b c r s o p (b ++ r) refl rest f (subst (λ y. Right (y ∷ (c ++ p))) head g) (stops_from Right w w b r refl k) later in
+    omega (arith, e)
+
+-- no right words have one
+no_misfit : (Right : List (List ℕ) → Type 0) (words : List (List ℕ)) (place : ℕ) → IsFirstMisfit Right words place → Right words → ⊥
+no_misfit Right words place found right = by found.rest found.whole found.stops
+  where
+    by : (rest : List (List ℕ)) → words ≡ found.before ++ rest → StopsAt Right found.before rest → ⊥
+    by [] whole stops = stops (subst Right (whole ∙ append_nothing found.before) right)
+    by (next ∷ rest) whole stops = stops rest (subst Right whole right)
+
+-- it is the one that the rule finds
+pub misfit_is : (verb : Verb) (words : List (List ℕ)) (place : ℕ) → IsFirstMisfit (AreRight verb) words place → misfit_of verb words ≡ Some place
+misfit_is verb words place found = by (misfit_of verb words) refl
+  where
+    by : (o : Option ℕ) → misfit_of verb words ≡ o → misfit_of verb words ≡ Some place
+    by None e = absurd (no_misfit (AreRight verb) words place found ((right_law verb words).0 e))
+    by (Some other) e =
+        let first = first_misfit_law verb words other e in
+        let same = same_before (AreRight verb) first.before found.before first.rest found.rest first.others found.others words first.whole found.whole first.begins_right found.begins_right first.stops found.stops in
+        let here : other ≡ length first.before + 1 = first.place_is in
+        let there : place ≡ length found.before + 1 = found.place_is in
+        let equal : other ≡ place = omega (arith, same, here, there) in
+        e ∙ ap Some equal

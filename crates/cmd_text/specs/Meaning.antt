@@ -1,4 +1,4 @@
--- What each answer to a line means. That `line_read` is the one right answer is a law: see `meaning_law`.
+-- What each answer to a line means. That `line_read` is the one whose meaning is true of the line is a law: see `meaning_law`.
 use Rattle.std.specs.Prelude.{◌≡◌, ◌⊎◌, ◌<◌, ◌≤◌, ℕ, true, false, List, ◌∷◌, length, Some, None, Ok, Err}
 use Rattle.cmd_text.specs.declared.command.LineFault.TheVariants.{TooLong, UnknownWord, Arguments, Memory}
 use Rattle.cmd_text.specs.declared.verb.Verb.{Verb}
