@@ -3,6 +3,7 @@ use Rattle.std.specs.Prelude.{◌≡◌, ℕ, ◌^◌, ◌<◌, ◌≤◌, true,
 use Rattle.std.specs.List.{AllByRecursion, list_all, list_any}
 use Rattle.cmd_text.specs.Cut.{is_quote, is_stray}
 use Rattle.cmd_text.specs.Spelling.{is_name}
+use Rattle.exact_geom.specs.Rounding.{IsGrid}
 use Rattle.fixed_num.specs.Whole.{IsWide}
 use Rattle.cmd_text.specs.declared.command.SurfaceWords.{SurfaceWords}
 use Rattle.cmd_text.specs.declared.command.SurfaceWords.TheVariants.{Set as SetTo}
@@ -36,9 +37,6 @@ ArePoints ps = AllByRecursion IsPoint ps × (length ps < 4096)
 
 abbrev pub IsThickness : ℤ → Type 0
 IsThickness z = (pos 1 ≤ℤ z) × (z ≤ℤ pos 4096)
-
-abbrev pub IsGrid : ℤ → Type 0
-IsGrid z = (pos 1 ≤ℤ z) × (z ≤ℤ pos 64)
 
 -- counts of 10^-6, 10^-9 and 10^-12 below 1,000,000 in size
 abbrev pub IsMicro : ℤ → Type 0

@@ -2,7 +2,8 @@
 
 ghost use Rattle.std.specs.Prelude.{◌≡◌, ◌<◌, ◌≤◌, ◌+◌, ◌∷◌, [], length, drop, IfOk, IfSome, MatchOption};
 ghost use Rattle.std.specs.List.{AllByRecursion};
-ghost use Rattle.cmd_text.specs.Kept.{IsNumber, IsQuarters, IsCoordinate, IsShift, IsPoint, AreShifts, IsThickness, IsGrid, IsMicro, IsNano, IsPico, KeepsSurface};
+ghost use Rattle.cmd_text.specs.Kept.{IsNumber, IsQuarters, IsCoordinate, IsShift, IsPoint, AreShifts, IsThickness, IsMicro, IsNano, IsPico, KeepsSurface};
+ghost use Rattle.exact_geom.specs.Rounding.{IsGrid};
 ghost use Rattle.fixed_num.specs.Whole.{IsWide};
 ghost use Rattle.cmd_text.specs.Commands.{text_at, number_at, quarters_at, coordinate_at, shift_at, point_at, shifts_at, thickness_at, grid_at, axis_at, part_at, switch_at, micro_at, nano_at, pico_at, wide_at, plane_at, offsets_at, scales_at, numbers, points, surface_of, surface_numbers, coordinate};
 
