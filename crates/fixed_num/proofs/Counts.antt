@@ -1,6 +1,7 @@
 -- The counts of a word: there is just one, and what the reader keeps tells it.
-use Rattle.std.proofs.Common.{◌≡◌, ℕ, ◌+◌, ◌*◌, ◌%◌, ◌^◌, ◌<◌, ◌≤◌, zero, suc, Bool, true, false, List, refl, arith, sym, ap, ◌∙◌, ⊎_elim, subst, ℤ, pos, ◌*ℤ◌, unsigned_abs, Some, zero-mul}
-use Rattle.std.proofs.Math.Nat.{one-le-pow}
+use Rattle.std.proofs.Common.{◌≡◌, ℕ, ◌+◌, ◌*◌, ◌%◌, ◌^◌, ◌<◌, ◌≤◌, zero, suc, Bool, true, false, List, refl, arith, sym, ap, ◌∙◌, ⊎_elim, subst, ℤ, pos, ◌*ℤ◌, unsigned_abs, Some, zero-mul, ◌-◌, ◌/◌}
+use Rattle.std.proofs.Math.Nat.{one-le-pow, add-mul-mod_self_right, mul-add-mod_self_right}
+use Rattle.std.proofs.lemmas.Nat.{pow-add, div-add-mod'}
 use Rattle.std.proofs.lemmas.Bool.{cases_lt}
 use Rattle.fixed_num.specs.NumberWord.{Parts, HasParts}
 use Rattle.fixed_num.specs.DecimalValue.{RoundsTo, IsExactly, IsNearest, with_sign, numerator, denominator}
@@ -64,11 +65,28 @@ small_from_kept size h = ⊎_elim (λ k. sym (squeezed-small size k)) (λ k. abs
 pub great_from_kept : (size limit : ℕ) → limit ≤ 10 ^ 18 → limit ≤ squeezed size → limit ≤ size
 great_from_kept size limit h k = ⊎_elim (λ l. omega (arith, squeezed-small size l)) (λ l. omega arith) (cases_lt size (10 ^ 18))
 
-rest_again : (n : ℕ) → (10 ^ 18 + n % 10 ^ 6) % 10 ^ 6 ≡ n % 10 ^ 6
-rest_again n = omega arith
+-- up to six last digits of a count are those of what is kept of it
+power_split : (a d : ℕ) → d ≤ a → 10 ^ a ≡ 10 ^ (a - d) * 10 ^ d
+power_split a d h = let parts : a ≡ a - d + d = omega arith in ap (λ n. 10 ^ n) parts ∙ pow-add 10 (a - d) d
 
-pub rest_from_kept : (size : ℕ) → squeezed size % 10 ^ 6 ≡ size % 10 ^ 6
-rest_from_kept size = ⊎_elim (λ l. ap (λ x. x % 10 ^ 6) (squeezed-small size l)) (λ l. ap (λ x. x % 10 ^ 6) (squeezed-great size l) ∙ rest_again size) (cases_lt size (10 ^ 18))
+regroup : (m q p r n : ℕ) → m * (q * p) + r ≡ n → n ≡ r + m * q * p
+regroup m q p r n e = omega arith
+
+rest_of_rest : (n q p : ℕ) → n % (q * p) % p ≡ n % p
+rest_of_rest n q p =
+    let cut : n ≡ n % (q * p) + n / (q * p) * q * p = regroup (n / (q * p)) q p (n % (q * p)) n (div-add-mod' n (q * p)) in
+    sym (ap (λ x. x % p) cut ∙ add-mul-mod_self_right (n % (q * p)) (n / (q * p) * q) p)
+
+rest_again : (decimals n : ℕ) → decimals ≤ 6 → (10 ^ 18 + n % 10 ^ 6) % 10 ^ decimals ≡ n % 10 ^ decimals
+rest_again decimals n few =
+    ap (λ g. (g + n % 10 ^ 6) % 10 ^ decimals) (power_split 18 decimals (omega arith))
+    ∙ mul-add-mod_self_right (10 ^ (18 - decimals)) (10 ^ decimals) (n % 10 ^ 6)
+    ∙ ap (λ m. n % m % 10 ^ decimals) (power_split 6 decimals few)
+    ∙ rest_of_rest n (10 ^ (6 - decimals)) (10 ^ decimals)
+
+pub rest_from_kept : (decimals size : ℕ) → decimals ≤ 6 → squeezed size % 10 ^ decimals ≡ size % 10 ^ decimals
+rest_from_kept decimals size few = ⊎_elim (λ l. ap (λ x. x % 10 ^ decimals) (squeezed-small size l))
+    (λ l. ap (λ x. x % 10 ^ decimals) (squeezed-great size l) ∙ rest_again decimals size few) (cases_lt size (10 ^ 18))
 
 -- ---- the count that is kept of a word
 

@@ -1,4 +1,4 @@
-use Rattle.std.proofs.Common.{◌≡◌, ◌/◌, ◌^◌, to_z, of_z, w64, rules, refl, ◌∙◌}
+use Rattle.std.proofs.Common.{arith, ◌≡◌, ◌/◌, ◌^◌, to_z, of_z, w64, rules, refl, ◌∙◌}
 use Rattle.std.proofs.lemmas.Int.{to_z-of_z}
 use mir.Val.{SFits}
 use Rattle.fixed_num.specs.DecimalValue.{with_sign}
@@ -14,13 +14,13 @@ pub returns-then-count-ne0-clause-not_whole : goal.returns-then-count-ne0-clause
 returns-then-count-ne0-clause-not_whole c =
     let keeps : KeepsCount 6 c.args.word.now c.in_ok-count.count.negative c.in_ok-count.count.size =
     at_some (¬ IsNumberWord c.args.word.now) (λ (k : KeptCount). KeepsCount 6 c.args.word.now k.negative k.size) c.read_kept_count.result c.in_ok-count.count c.in_ok-count.ensures.ok_part c.read_kept_count.ensures in
-    (λ _. fraction_from_kept _ _ _ keeps c.if-count-ne0.true, λ _. refl)
+    (λ _. fraction_from_kept 6 _ _ _ (omega arith) keeps c.if-count-ne0.true, λ _. refl)
 
 pub returns-then-count-ne0-clause-too_large : goal.returns-then-count-ne0-clause-too_large
 returns-then-count-ne0-clause-too_large c =
     let keeps : KeepsCount 6 c.args.word.now c.in_ok-count.count.negative c.in_ok-count.count.size =
     at_some (¬ IsNumberWord c.args.word.now) (λ (k : KeptCount). KeepsCount 6 c.args.word.now k.negative k.size) c.read_kept_count.result c.in_ok-count.count c.in_ok-count.ensures.ok_part c.read_kept_count.ensures in
-    (λ e. absurd (cc), λ w. absurd (no_whole_from_kept _ _ _ w.0 keeps c.if-count-ne0.true w.1))
+    (λ e. absurd (cc), λ w. absurd (no_whole_from_kept 6 _ _ _ w.0 (omega arith) keeps c.if-count-ne0.true w.1))
 
 pub returns-then-is_within-clause-ok : goal.returns-then-is_within-clause-ok
 returns-then-is_within-clause-ok c =
@@ -32,13 +32,13 @@ returns-then-is_within-clause-ok c =
     let least : to_z w64 (of_z w64 c.args.least) ≡ c.args.least = to_z-of_z w64 c.args.least c.ranges.least in
     let most : to_z w64 (of_z w64 c.args.most) ≡ c.args.most = to_z-of_z w64 c.args.most c.ranges.most in
     let within : IsWithin c.args.least c.args.most (with_sign c.in_ok-count.count.negative (c.in_ok-count.count.size / 10 ^ 6)) = rw (whole, least, most) at (c.if-is_within.ensures) in
-    rw whole (whole_within _ _ _ c.args.least c.args.most about keeps c.if-count-ne0.false within, within)
+    rw whole (whole_within 6 _ _ _ c.args.least c.args.most (omega arith) about keeps c.if-count-ne0.false within, within)
 
 pub returns-then-is_within-clause-not_whole : goal.returns-then-is_within-clause-not_whole
 returns-then-is_within-clause-not_whole c =
     let keeps : KeepsCount 6 c.args.word.now c.in_ok-count.count.negative c.in_ok-count.count.size =
     at_some (¬ IsNumberWord c.args.word.now) (λ (k : KeptCount). KeepsCount 6 c.args.word.now k.negative k.size) c.read_kept_count.result c.in_ok-count.count c.in_ok-count.ensures.ok_part c.read_kept_count.ensures in
-    (λ e. absurd (cc), λ w. absurd (no_fraction_from_kept _ _ _ w.0 keeps c.if-count-ne0.false w.1 w.2))
+    (λ e. absurd (cc), λ w. absurd (no_fraction_from_kept 6 _ _ _ w.0 (omega arith) keeps c.if-count-ne0.false w.1 w.2))
 
 pub returns-then-is_within-clause-too_large : goal.returns-then-is_within-clause-too_large
 returns-then-is_within-clause-too_large c =
@@ -50,13 +50,13 @@ returns-then-is_within-clause-too_large c =
     let least : to_z w64 (of_z w64 c.args.least) ≡ c.args.least = to_z-of_z w64 c.args.least c.ranges.least in
     let most : to_z w64 (of_z w64 c.args.most) ≡ c.args.most = to_z-of_z w64 c.args.most c.ranges.most in
     let within : IsWithin c.args.least c.args.most (with_sign c.in_ok-count.count.negative (c.in_ok-count.count.size / 10 ^ 6)) = rw (whole, least, most) at (c.if-is_within.ensures) in
-    (λ e. absurd (cc), λ w. absurd (w.2 (none_outside _ _ _ c.args.least c.args.most w.0 about keeps c.if-count-ne0.false within w.1)))
+    (λ e. absurd (cc), λ w. absurd (w.2 (none_outside 6 _ _ _ c.args.least c.args.most w.0 (omega arith) about keeps c.if-count-ne0.false within w.1)))
 
 pub returns-else-is_within-clause-not_whole : goal.returns-else-is_within-clause-not_whole
 returns-else-is_within-clause-not_whole c =
     let keeps : KeepsCount 6 c.args.word.now c.in_ok-count.count.negative c.in_ok-count.count.size =
     at_some (¬ IsNumberWord c.args.word.now) (λ (k : KeptCount). KeepsCount 6 c.args.word.now k.negative k.size) c.read_kept_count.result c.in_ok-count.count c.in_ok-count.ensures.ok_part c.read_kept_count.ensures in
-    (λ e. absurd (cc), λ w. absurd (no_fraction_from_kept _ _ _ w.0 keeps c.if-count-ne0.false w.1 w.2))
+    (λ e. absurd (cc), λ w. absurd (no_fraction_from_kept 6 _ _ _ w.0 (omega arith) keeps c.if-count-ne0.false w.1 w.2))
 
 pub returns-else-is_within-clause-too_large : goal.returns-else-is_within-clause-too_large
 returns-else-is_within-clause-too_large c =
@@ -68,4 +68,4 @@ returns-else-is_within-clause-too_large c =
     let least : to_z w64 (of_z w64 c.args.least) ≡ c.args.least = to_z-of_z w64 c.args.least c.ranges.least in
     let most : to_z w64 (of_z w64 c.args.most) ≡ c.args.most = to_z-of_z w64 c.args.most c.ranges.most in
     let outside : ¬ IsWithin c.args.least c.args.most (with_sign c.in_ok-count.count.negative (c.in_ok-count.count.size / 10 ^ 6)) = rw (whole, least, most) at (c.if-is_within.ensures) in
-    (λ _. whole_outside _ _ _ c.args.least c.args.most about keeps c.if-count-ne0.false outside, λ _. refl)
+    (λ _. whole_outside 6 _ _ _ c.args.least c.args.most (omega arith) about keeps c.if-count-ne0.false outside, λ _. refl)
