@@ -84,10 +84,10 @@ unfolding tokens_left word_begins
 left-word line text first =
     let begins = word_begins text first in left-cons line (Word (up_to_blank text)) begins.0 text begins.1 begins.2
 
-module _ (line : ℕ) {text front rest : List ℕ} {len : ℕ} (parts : Parts text front rest len) (first : begins_word text ≡ true) (ends : len ≡ position_or_len is_blank text) where
-  pub word_stray : list_any is_stray front ≡ true → tokens_left line text ≡ stopped (StrayByte line)
-  word_stray = at_stray (up_to_blank text) front line _ _ (left-word line text first) (parts.is_front ∙ ap (λ n. take n text) ends)
+pub word_stray : (line : ℕ) (text : List ℕ) → begins_word text ≡ true → list_any is_stray (up_to_blank text) ≡ true → tokens_left line text ≡ stopped (StrayByte line)
+word_stray line text first = at_stray (up_to_blank text) (up_to_blank text) line _ _ (left-word line text first) refl
 
+module _ (line : ℕ) {text front rest : List ℕ} {len : ℕ} (parts : Parts text front rest len) (first : begins_word text ≡ true) (ends : len ≡ position_or_len is_blank text) where
   pub word_clean : list_any is_stray front ≡ false → tokens_left line text ≡ put_first (record { text = front; quoted = false; line = line }) (tokens_left line rest)
   word_clean clean =
       let whole : front ≡ up_to_blank text = parts.is_front ∙ ap (λ n. take n text) ends in

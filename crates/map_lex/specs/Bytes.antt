@@ -1,4 +1,4 @@
--- The bytes at which a map text is cut, by their numbers in ASCII.
+-- The bytes at which a map text is cut, by their numbers in ASCII. What is promised of tokens rests on it.
 use Rattle.std.specs.Prelude.{ℕ, Bool, false, ◌==◌, ◌||◌, ◌&&◌, not, nat_lt, nat_eq, List, [], ◌∷◌}
 use Rattle.std.specs.List.{before_first, list_all, ends_with}
 

@@ -1,4 +1,4 @@
--- A cut of a whole map text into blanks, comments and words.
+-- A cut of a whole map text into blanks, comments and words. What is promised of tokens rests on it.
 use Rattle.std.specs.Prelude.{◌≡◌, ℕ, Bool, false, ◌==◌, ◌||◌, not, IsTrue, List, [], ◌∷◌, ◌++◌}
 use Rattle.std.specs.List.{flat_map}
 use Rattle.map_lex.specs.Bytes.{is_blank, rest_of_line, up_to_blank, begins_comment, closes}

@@ -1,4 +1,4 @@
--- The tokens of a map text, up to its first fault.
+-- The tokens of a map text, up to its first fault: what `Tokens` promises.
 use Rattle.std.specs.Prelude.{◌≡◌, ℕ, ◌+◌, Bool, true, false, ◌==◌, if◌then◌else◌, nat_eq, List, [], ◌∷◌, drop, Option, None, Some, Result, Ok, Err}
 use Rattle.std.specs.Borrow.{Bor}
 use Rattle.std.specs.List.{list_any, starts_with}

@@ -1,4 +1,5 @@
-// The kinds of bytes that decide where a text is cut.
+//! The kinds of bytes that decide where a text is cut.
+
 ghost use Rattle.std.specs.Prelude.{◌≡◌};
 ghost use Rattle.map_lex.specs.Bytes.{is_blank, is_stray};
 

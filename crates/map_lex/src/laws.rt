@@ -1,4 +1,5 @@
-// A law on the definitions alone.
+//! A law on the definitions alone.
+
 ghost use Rattle.std.specs.Prelude.{◌≡◌, ℕ, List};
 ghost use Rattle.map_lex.specs.Cut.{Piece, IsCut};
 ghost use Rattle.map_lex.specs.TokenList.{TokenList, AreTokensOf, token_list};

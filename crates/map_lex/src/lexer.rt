@@ -1,4 +1,5 @@
-// The tokens of a text, asked for one after another.
+//! The tokens of a text, asked for one after another.
+
 ghost use Rattle.std.specs.Prelude.{◌≡◌, ◌+◌, ◌-◌, ◌^◌, ◌<◌, ◌≤◌, ◌↔◌, ◌∷◌, [], IsTrue, IfOk, IfErr, IfSome, MatchOption, MatchResult, length};
 ghost use Rattle.map_lex.specs.Cut.{begins_word};
 ghost use Rattle.map_lex.specs.TokenList.{TokenList, tokens_left, cut_off, put_first, no_more, stopped, value_of, without_mark, token_list, AreTokensOf};
@@ -130,10 +131,10 @@ fn word(text: &[u8], line: u32) -> Result<(Token<'_>, &[u8]), LexFault>
     ensures left { tokens_left line text.now ≡ cut_off line result }
     ensures no_longer { IfOk result (λ cut. length cut.1.now ≤ length text.now) }
 {
-    let (word, rest) = text.split_at(word_len(text));
-    if has_stray(word) {
+    let Some(len) = word_len(text) else {
         return Err(LexFault::StrayByte(line));
-    }
+    };
+    let (word, rest) = text.split_at(len);
     let token = Token {
         text: word,
         quoted: false,

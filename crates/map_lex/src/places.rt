@@ -1,4 +1,5 @@
-// The way past blanks and comments.
+//! The way past blanks and comments.
+
 ghost use Rattle.std.specs.Prelude.{◌≡◌, ◌+◌, ◌^◌, ◌<◌, ◌≤◌, ◌∷◌, length, MatchResult, OnOk, IfOk, IsFalse};
 ghost use Rattle.map_lex.specs.Bytes.{begins_blank, begins_comment};
 ghost use Rattle.map_lex.specs.TokenList.{tokens_left, stopped};

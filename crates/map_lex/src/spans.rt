@@ -1,7 +1,8 @@
-// How far the pieces of a text go, and what is wrong with them.
-ghost use Rattle.std.specs.Prelude.{◌≡◌, ◌<◌, ◌≤◌, ◌+◌, ◌==◌, [], length, take, IfSome, IfNone};
+//! How far the pieces of a text go, and what is wrong with them.
+
+ghost use Rattle.std.specs.Prelude.{◌≡◌, ◌<◌, ◌≤◌, ◌+◌, ◌==◌, true, false, [], length, take, IfSome, IfNone};
 ghost use Rattle.std.specs.List.{list_all, list_any, position_or_len};
-ghost use Rattle.map_lex.specs.Bytes.{is_blank, is_stray, rest_of_line, closes};
+ghost use Rattle.map_lex.specs.Bytes.{is_blank, is_stray, rest_of_line, up_to_blank, closes};
 ghost use Rattle.map_lex.specs.Cut.{Quoted, Open};
 ghost use Rattle.map_lex.specs.Pieces.{quoted_from};
 
@@ -20,17 +21,22 @@ pub(crate) fn line_len(text: &[u8]) -> usize
     text.len()
 }
 
-// How many bytes stand before the next blank.
-pub(crate) fn word_len(text: &[u8]) -> usize
-    ensures word { result ≡ position_or_len is_blank text.now }
-    ensures within { result ≤ length text.now }
+// How many bytes stand before the next blank; `None` where one of them is a stray byte. Each byte is looked at once, and
+// only the last one more closely.
+pub(crate) fn word_len(text: &[u8]) -> Option<usize>
+    ensures word { IfSome result (λ len. (len ≤ length text.now) × (len ≡ position_or_len is_blank text.now)) }
+    ensures clean { IfSome result (λ len. list_any is_stray (take len text.now) ≡ false) }
+    ensures stray { IfNone result (list_any is_stray (up_to_blank text.now) ≡ true) }
 {
     for (len, &byte) in text.iter().enumerate() {
-        if is_blank(byte) {
-            return len;
+        if byte <= b' ' {
+            if is_blank(byte) {
+                return Some(len);
+            }
+            return None;
         }
     }
-    text.len()
+    Some(text.len())
 }
 
 pub(crate) fn has_stray(piece: &[u8]) -> bool

@@ -9,20 +9,21 @@ use Rattle.fixed_num.specs.Count.{is_number_word}
 use Rattle.map_lex.specs.TokenList.{TokenValue, token_list, no_more}
 use Rattle.uv_lock.specs.declared.texture.Format.{Format}
 use Rattle.uv_lock.specs.declared.texture.Format.TheVariants.{Standard, Valve}
+use Rattle.map_lex.specs.OneToken.{ends_with_backslash}
 use Rattle.map_text.specs.declared.document.MapDoc.{MapDoc}
 use Rattle.map_text.specs.declared.read_fault.What.{What}
 use Rattle.map_text.specs.declared.read_fault.What.TheVariants.{Entity, Item as AnItem, Key, Value, Face, Point, Number, Material, Axis}
 use Rattle.map_text.specs.declared.read_fault.ReadFault.{ReadFault}
 use Rattle.map_text.specs.declared.read_fault.ReadFault.TheVariants.{Expected, MixedFormat, UnknownBlock}
-use Rattle.map_text.specs.Grammar.{Symbol, symbol_of, word, quote, bracket, PointText, AxisText, TextureText, standard, valve, texture_symbols, FaceText, face_symbols, Item, property, brush, item_symbols, file_symbols}
-use Rattle.map_text.specs.Fits.{ends_with_backslash, is_material, texture_numbers, face_fits, item_fits, format_of, is_format, formats}
-use Rattle.map_text.specs.Refusals.{Awaited, an_entity, an_item, a_value, first_in_brush, a_face, mark, a_number, a_material, a_texture, Step, fits, refused, step, settled, Outcome, passed, go_on, refusal_of, first_refusal, is_bracket, is_number, names_block, face_step, texture_format, texture_step, rest_of_point, rest_of_axis, rest_of_face, rest_of_texture, last_line}
+use Rattle.map_text.specs.Grammar.{Symbol, symbol_of, word, quote, bracket, PointText, AxisText, TextureText, standard, valve, texture_symbols, SurfaceText, surface_symbols, FaceText, face_symbols, Item, property, brush, item_symbols, file_symbols}
+use Rattle.map_text.specs.Fits.{is_material, texture_numbers, surface_numbers, face_fits, item_fits, format_of, is_format, formats}
+use Rattle.map_text.specs.Refusals.{Awaited, an_entity, an_item, a_value, first_in_brush, a_face, mark, a_number, a_material, a_texture, a_surface, Step, fits, refused, step, settled, Outcome, passed, go_on, refusal_of, first_refusal, is_bracket, is_number, names_block, face_step, texture_format, texture_step, rest_of_point, rest_of_axis, rest_of_face, rest_of_texture, last_line}
 use Rattle.map_text.specs.Reading.{first_after, all_are, allows}
 use Rattle.map_text.specs.Parts.{point_end, point_fits, face_end, format_of_face}
 use Rattle.map_text.specs.Reads.{Reads}
-use Rattle.map_text.proofs.Passing.{is_texture, step_on, settled-other, first_after-none, first_after-append, and_left, and_right, not_true}
+use Rattle.map_text.proofs.Passing.{is_texture, step_on, goes_without, settled-other, first_after-none, first_after-append, and_left, and_right, not_true}
 use Rattle.map_text.proofs.TextureTexts.{same_format, texture_fits, texture_settles, valve_kind, standard_kind}
-use Rattle.map_text.proofs.OneReading.{bracket_is_no_number, entity_first}
+use Rattle.map_text.proofs.OneReading.{bracket_is_no_number, opening_is_no_number, closing_is_no_number, entity_first, surface_fit}
 use Rattle.map_text.proofs.EntityTexts.{formats_of}
 use Rattle.map_text.proofs.MapTexts.{entity_fits}
 
@@ -53,7 +54,7 @@ alike_if false x x' y y' h k = k
 
 face_alike : (t : TokenValue) → Alike (face_step t) (face_step (unlined t))
 face_alike t =
-    alike_if (is_bracket 40 t) (fits (rest_of_face ++ (a_face ∷ []))) (fits (rest_of_face ++ (a_face ∷ []))) _ _ (fit (rest_of_face ++ (a_face ∷ [])))
+    alike_if (is_bracket 40 t) (fits rest_of_face) (fits rest_of_face) _ _ (fit rest_of_face)
     (alike_if (is_bracket 125 t) (fits []) (fits []) _ _ (fit []) (refuse (Expected Face t.line) (Expected Face 0)))
 
 texture_alike : (first : Option Format) (t u : TokenValue) (o : Option Format) → Alike (texture_step first t o) (texture_step first u o)
@@ -77,6 +78,8 @@ step_alike first (mark byte what) t = alike_if (is_bracket byte t) (fits []) (fi
 step_alike first a_number t = alike_if (is_number t) (fits []) (fits []) _ _ (fit []) (refuse (Expected Number t.line) (Expected Number 0))
 step_alike first a_material t = alike_if (is_material (symbol_of t)) (fits []) (fits []) _ _ (fit []) (refuse (Expected Material t.line) (Expected Material 0))
 step_alike first a_texture t = texture_alike first t (unlined t) (texture_format t)
+step_alike first a_surface t =
+    alike_if (is_number t) (fits (a_number ∷ a_number ∷ a_face ∷ [])) (fits (a_number ∷ a_number ∷ a_face ∷ [])) _ _ (fit (a_number ∷ a_number ∷ a_face ∷ [])) (face_alike t)
 
 settled_same : (first : Option Format) (p : Awaited) (t : TokenValue) → settled first p (unlined t) ≡ settled first p t
 settled_same (Some first) p t = refl
@@ -89,6 +92,7 @@ settled_same None (mark byte what) t = refl
 settled_same None a_number t = refl
 settled_same None a_material t = refl
 settled_same None a_texture t = refl
+settled_same None a_surface t = refl
 
 -- reading over symbols
 abbrev run : Option Format → List Awaited → List Symbol → Outcome
@@ -106,6 +110,7 @@ end_same last first (mark byte what ∷ ps) h = absurd (cc)
 end_same last first (a_number ∷ ps) h = absurd (cc)
 end_same last first (a_material ∷ ps) h = absurd (cc)
 end_same last first (a_texture ∷ ps) h = absurd (cc)
+end_same last first (a_surface ∷ ps) h = absurd (cc)
 
 lines_apart : (last : ℕ) (tokens : List TokenValue) (first : Option Format) (places : List Awaited) → refusal_of (run first places (map symbol_of tokens)) ≡ None
     → refusal_of (go_on last first places tokens None) ≡ None
@@ -208,23 +213,41 @@ coordinate_fits p q r h =
     ∙ sym (list_all-append is_number_word (p.x ∷ p.y ∷ p.z ∷ []) (q.x ∷ q.y ∷ q.z ∷ r.x ∷ r.y ∷ r.z ∷ [])) ∙ h
 
 face_runs : (first : Option Format) (f : FaceText) (places : List Awaited) (r : List Symbol) → face_fits f ≡ true → allows first (format_of_face f) ≡ true
-    → run first (rest_of_face ++ places) (face_end f ++ r) ≡ run (Some (format_of_face f)) places r
+    → run first (rest_of_face ++ places) (face_end f ++ r) ≡ run (Some (format_of_face f)) (a_surface ∷ places) (surface_symbols f.surface ++ r)
 face_runs first f places r h allowed =
     let points : (point_fits f.p0 && (point_fits f.p1 && point_fits f.p2)) ≡ true = coordinate_fits f.p0 f.p1 f.p2 (and_left _ _ h) in
     let others = and_right (point_fits f.p0) _ points in
     let tail = and_right _ _ h in
-    let after0 = mark 40 Point ∷ rest_of_point ++ (mark 40 Point ∷ rest_of_point ++ (a_material ∷ a_texture ∷ places)) in
-    let after1 = mark 40 Point ∷ rest_of_point ++ (a_material ∷ a_texture ∷ places) in
-    let texture : List Symbol = texture_symbols f.texture ++ r in
+    let after0 = mark 40 Point ∷ rest_of_point ++ (mark 40 Point ∷ rest_of_point ++ (a_material ∷ a_texture ∷ a_surface ∷ places)) in
+    let after1 = mark 40 Point ∷ rest_of_point ++ (a_material ∷ a_texture ∷ a_surface ∷ places) in
+    let texture : List Symbol = (texture_symbols f.texture ++ surface_symbols f.surface) ++ r in
     let third : List Symbol = point_end f.p2 ++ (f.material ∷ texture) in
     let second : List Symbol = point_end f.p1 ++ (bracket 40 ∷ third) in
     point_runs first f.p0 after0 (bracket 40 ∷ second) (and_left (point_fits f.p0) _ points)
     ∙ mark_runs first 40 Point (rest_of_point ++ after1) second
     ∙ point_runs first f.p1 after1 (bracket 40 ∷ third) (and_left (point_fits f.p1) _ others)
-    ∙ mark_runs first 40 Point (rest_of_point ++ (a_material ∷ a_texture ∷ places)) third
-    ∙ point_runs first f.p2 (a_material ∷ a_texture ∷ places) (f.material ∷ texture) (and_right (point_fits f.p1) _ others)
-    ∙ material_runs first f.material (a_texture ∷ places) texture (and_left (is_material f.material) _ tail)
-    ∙ texture_runs first f.texture places r (and_right (is_material f.material) _ tail) allowed
+    ∙ mark_runs first 40 Point (rest_of_point ++ (a_material ∷ a_texture ∷ a_surface ∷ places)) third
+    ∙ point_runs first f.p2 (a_material ∷ a_texture ∷ a_surface ∷ places) (f.material ∷ texture) (and_right (point_fits f.p1) _ others)
+    ∙ material_runs first f.material (a_texture ∷ a_surface ∷ places) texture (and_left (is_material f.material) _ tail)
+    ∙ ap (run first (a_texture ∷ a_surface ∷ places)) (append_assoc (texture_symbols f.texture) (surface_symbols f.surface) r)
+    ∙ texture_runs first f.texture (a_surface ∷ places) (surface_symbols f.surface ++ r) (and_left _ _ (and_right (is_material f.material) _ tail)) allowed
+
+-- what stands behind a face in a brush: further faces, and the bracket of the end
+behind_face : List FaceText → List Symbol → List Symbol
+behind_face fs r = flat_map face_symbols fs ++ (bracket 125 ∷ r)
+
+surface_runs : (first : Option Format) (s : Option SurfaceText) (fs : List FaceText) (places : List Awaited) (r : List Symbol) → list_all is_number_word (surface_numbers s) ≡ true
+    → run first (a_surface ∷ places) (surface_symbols s ++ behind_face fs r) ≡ run first (a_face ∷ places) (behind_face fs r)
+unfolding behind_face
+surface_runs first None [] places r h = goes_without 0 first places (token_of (bracket 125)) _ None closing_is_no_number
+surface_runs first None (f ∷ fs) places r h = goes_without 0 first places (token_of (bracket 40)) _ None opening_is_no_number
+surface_runs first (Some s) fs places r h =
+    let hf = and_right (is_number_word s.contents) _ h in let hv = and_right (is_number_word s.flags) _ hf in
+    let rest : List Symbol = flat_map face_symbols fs ++ (bracket 125 ∷ r) in
+    symbol_runs first a_surface (word s.contents) (a_number ∷ a_number ∷ a_face ∷ []) places (word s.flags ∷ word s.value ∷ rest) refl
+    (ap (λ b. cond b (fits (a_number ∷ a_number ∷ a_face ∷ [])) (face_step (token_of (word s.contents)))) (and_left (is_number_word s.contents) _ h))
+    ∙ number_runs first s.flags (a_number ∷ a_face ∷ places) (word s.value ∷ rest) (and_left (is_number_word s.flags) _ hf)
+    ∙ number_runs first s.value (a_face ∷ places) rest (and_left (is_number_word s.value) _ hv)
 
 -- ---- formats
 
@@ -258,12 +281,14 @@ one_settles (Some y) x f h = ap Some (same_format y x (and_left (is_format y x) 
 
 faces_run : (first : Option Format) (fs : List FaceText) (places : List Awaited) (r : List Symbol) → list_all face_fits fs ≡ true → OneFormat first (map format_of_face fs)
     → run first (a_face ∷ places) (flat_map face_symbols fs ++ (bracket 125 ∷ r)) ≡ run (first_after first (map format_of_face fs)) places r
+unfolding behind_face
 faces_run first [] places r h one = symbol_runs first a_face (bracket 125) [] places r refl refl ∙ ap (λ f. run f places r) (first_after-none first)
 faces_run first (f ∷ fs) places r h one =
     let g : Option Format = first_after first (format_of_face f ∷ []) in
     ap (run first (a_face ∷ places)) (append_assoc (face_symbols f) (flat_map face_symbols fs) (bracket 125 ∷ r))
-    ∙ symbol_runs first a_face (bracket 40) (rest_of_face ++ (a_face ∷ [])) places (face_end f ++ (flat_map face_symbols fs ++ (bracket 125 ∷ r))) refl refl
-    ∙ face_runs first f (a_face ∷ places) (flat_map face_symbols fs ++ (bracket 125 ∷ r)) (and_left (face_fits f) _ h) (one_allows first (format_of_face f) (map format_of_face fs) one)
+    ∙ symbol_runs first a_face (bracket 40) rest_of_face places (face_end f ++ (flat_map face_symbols fs ++ (bracket 125 ∷ r))) refl refl
+    ∙ face_runs first f places (flat_map face_symbols fs ++ (bracket 125 ∷ r)) (and_left (face_fits f) _ h) (one_allows first (format_of_face f) (map format_of_face fs) one)
+    ∙ surface_runs (Some (format_of_face f)) f.surface fs places r (surface_fit f (and_left (face_fits f) _ h))
     ∙ ap (λ o. run o (a_face ∷ places) (flat_map face_symbols fs ++ (bracket 125 ∷ r))) (sym (one_settles first (format_of_face f) (map format_of_face fs) one))
     ∙ faces_run (first_after first (format_of_face f ∷ [])) fs places r (and_right (face_fits f) _ h) (one_right first (format_of_face f ∷ []) (map format_of_face fs) one)
     ∙ ap (λ o. run o places r) (first_after-append first (format_of_face f ∷ []) (map format_of_face fs))
@@ -273,8 +298,8 @@ brush_runs : (first : Option Format) (fs : List FaceText) (places : List Awaited
 brush_runs first [] places r h one = symbol_runs first first_in_brush (bracket 125) [] places r refl refl ∙ ap (λ f. run f places r) (first_after-none first)
 brush_runs first (f ∷ fs) places r h one =
     ap (run first (first_in_brush ∷ places)) (append_assoc (face_symbols f) (flat_map face_symbols fs) (bracket 125 ∷ r))
-    ∙ symbol_runs first first_in_brush (bracket 40) (rest_of_face ++ (a_face ∷ [])) places (face_end f ++ (flat_map face_symbols fs ++ (bracket 125 ∷ r))) refl refl
-    ∙ sym (symbol_runs first a_face (bracket 40) (rest_of_face ++ (a_face ∷ [])) places (face_end f ++ (flat_map face_symbols fs ++ (bracket 125 ∷ r))) refl refl)
+    ∙ symbol_runs first first_in_brush (bracket 40) rest_of_face places (face_end f ++ (flat_map face_symbols fs ++ (bracket 125 ∷ r))) refl refl
+    ∙ sym (symbol_runs first a_face (bracket 40) rest_of_face places (face_end f ++ (flat_map face_symbols fs ++ (bracket 125 ∷ r))) refl refl)
     ∙ ap (run first (a_face ∷ places)) (sym (append_assoc (face_symbols f) (flat_map face_symbols fs) (bracket 125 ∷ r)))
     ∙ faces_run first (f ∷ fs) places r h one
 

@@ -10,9 +10,9 @@ use Rattle.uv_lock.specs.declared.face.Face.{Face}
 use Rattle.map_text.specs.declared.document.RawBrush.{RawBrush}
 use Rattle.map_text.specs.declared.document.RawBrush.TheVariants.{Faces as AllFaces, Bad}
 use Rattle.map_text.specs.declared.document.Reason.{Reason}
-use Rattle.map_text.specs.declared.document.Reason.TheVariants.{Point as NoWholePoint, Range, Texture, Flat, Many}
+use Rattle.map_text.specs.declared.document.Reason.TheVariants.{Point as NoWholePoint, Range, Texture, Surface, Flat, Many}
 use Rattle.map_text.specs.Grammar.{PointText, FaceText}
-use Rattle.map_text.specs.Meaning.{is_whole, whole_of, has_fraction, passes_range, passes_limit, lies_on_line, reason_of, face_of_text, raw_brush_of}
+use Rattle.map_text.specs.Meaning.{is_whole, whole_of, has_fraction, passes_range, passes_limit, has_no_surface, lies_on_line, reason_of, face_of_text, raw_brush_of}
 use Rattle.map_text.specs.Judged.{first_reason, first_of, or_else, judge, coordinate_reason, point_reason, points_reason, face_reason, with_face}
 
 -- a reason that holds where the test does, or another one
@@ -72,22 +72,25 @@ points_reason-is p q r =
     ∙ ap (λ x. first_of x (reason_in (r.x ∷ r.y ∷ r.z ∷ []))) (reason_in-append (p.x ∷ p.y ∷ p.z ∷ []) (q.x ∷ q.y ∷ q.z ∷ []))
     ∙ reason_in-append (p.x ∷ p.y ∷ p.z ∷ q.x ∷ q.y ∷ q.z ∷ []) (r.x ∷ r.y ∷ r.z ∷ [])
 
--- the first reason, by the tests of the four that a face can have
-first_four : (a b c d : Bool) → Option Reason
-first_four a b c d = pick a NoWholePoint (pick b Range (pick c Texture (pick d Flat None)))
+-- the first reason, by the tests of the five that a face can have
+first_five : (a b c s d : Bool) → Option Reason
+first_five a b c s d = pick a NoWholePoint (pick b Range (pick c Texture (pick s Surface (pick d Flat None))))
 
-in_order : (a b c d : Bool) → or_else (pick a NoWholePoint (pick b Range None)) (or_else (pick c Texture None) (pick d Flat None)) ≡ first_four a b c d
-unfolding pick first_four
-in_order true b c d = refl
-in_order false true c d = refl
-in_order false false true d = refl
-in_order false false false d = refl
+in_order : (a b c s d : Bool)
+    → or_else (pick a NoWholePoint (pick b Range None)) (or_else (or_else (pick c Texture None) (pick s Surface None)) (pick d Flat None)) ≡ first_five a b c s d
+unfolding pick first_five
+in_order true b c s d = refl
+in_order false true c s d = refl
+in_order false false true s d = refl
+in_order false false false true d = refl
+in_order false false false false d = refl
 
-face_reason-is : (f : FaceText) → face_reason f ≡ first_four (has_fraction f) (passes_range f) (passes_limit f.texture) (lies_on_line f)
+face_reason-is : (f : FaceText) → face_reason f ≡ first_five (has_fraction f) (passes_range f) (passes_limit f.texture) (has_no_surface f.surface) (lies_on_line f)
 unfolding pick reason_in is_fraction is_far
 face_reason-is f =
-    ap (λ r. or_else r (or_else (pick (passes_limit f.texture) Texture None) (pick (lies_on_line f) Flat None))) (points_reason-is f.p0 f.p1 f.p2)
-    ∙ in_order (has_fraction f) (passes_range f) (passes_limit f.texture) (lies_on_line f)
+    ap (λ r. or_else r (or_else (or_else (pick (passes_limit f.texture) Texture None) (pick (has_no_surface f.surface) Surface None)) (pick (lies_on_line f) Flat None)))
+    (points_reason-is f.p0 f.p1 f.p2)
+    ∙ in_order (has_fraction f) (passes_range f) (passes_limit f.texture) (has_no_surface f.surface) (lies_on_line f)
 
 -- ---- the first reason of two lists of faces
 
@@ -117,34 +120,49 @@ flats a b = join_pick Flat a b None None refl (first_none Flat) (first_none Flat
 before_flat : (r : Reason) (d : Bool) → first_reason r Flat ≡ r → first_reason Flat r ≡ r → ComesFirst r (pick d Flat None)
 before_flat r d e h = first_pick r Flat d None e h (first_none r)
 
-before_texture : (r : Reason) (c d : Bool) → first_reason r Flat ≡ r → first_reason Flat r ≡ r → first_reason r Texture ≡ r → first_reason Texture r ≡ r
-    → ComesFirst r (pick c Texture (pick d Flat None))
-before_texture r c d e h k l = first_pick r Texture c (pick d Flat None) k l (before_flat r d e h)
+before_surface : (r : Reason) (s d : Bool) → first_reason r Flat ≡ r → first_reason Flat r ≡ r → first_reason r Surface ≡ r → first_reason Surface r ≡ r
+    → ComesFirst r (pick s Surface (pick d Flat None))
+before_surface r s d e h k l = first_pick r Surface s (pick d Flat None) k l (before_flat r d e h)
 
-first_four-join : (a b c d a' b' c' d' : Bool) → first_of (first_four a b c d) (first_four a' b' c' d') ≡ first_four (a || a') (b || b') (c || c') (d || d')
-unfolding first_four
-first_four-join a b c d a' b' c' d' =
-    join_pick NoWholePoint a a' (pick b Range (pick c Texture (pick d Flat None))) (pick b' Range (pick c' Texture (pick d' Flat None))) refl
-    (first_pick NoWholePoint Range b _ refl refl (before_texture NoWholePoint c d refl refl refl refl))
-    (first_pick NoWholePoint Range b' _ refl refl (before_texture NoWholePoint c' d' refl refl refl refl))
+from_surface : (s d s' d' : Bool) → first_of (pick s Surface (pick d Flat None)) (pick s' Surface (pick d' Flat None)) ≡ pick (s || s') Surface (pick (d || d') Flat None)
+from_surface s d s' d' =
+    join_pick Surface s s' (pick d Flat None) (pick d' Flat None) refl (before_flat Surface d refl refl) (before_flat Surface d' refl refl) ∙ ap (pick (s || s') Surface) (flats d d')
+
+from_texture : (c s d c' s' d' : Bool) → first_of (pick c Texture (pick s Surface (pick d Flat None))) (pick c' Texture (pick s' Surface (pick d' Flat None)))
+    ≡ pick (c || c') Texture (pick (s || s') Surface (pick (d || d') Flat None))
+from_texture c s d c' s' d' =
+    join_pick Texture c c' (pick s Surface (pick d Flat None)) (pick s' Surface (pick d' Flat None)) refl (before_surface Texture s d refl refl refl refl) (before_surface Texture s' d' refl refl refl refl)
+    ∙ ap (pick (c || c') Texture) (from_surface s d s' d')
+
+before_texture : (r : Reason) (c s d : Bool) → first_reason r Flat ≡ r → first_reason Flat r ≡ r → first_reason r Surface ≡ r → first_reason Surface r ≡ r
+    → first_reason r Texture ≡ r → first_reason Texture r ≡ r → ComesFirst r (pick c Texture (pick s Surface (pick d Flat None)))
+before_texture r c s d e h k l m n = first_pick r Texture c (pick s Surface (pick d Flat None)) m n (before_surface r s d e h k l)
+
+first_five-join : (a b c s d a' b' c' s' d' : Bool)
+    → first_of (first_five a b c s d) (first_five a' b' c' s' d') ≡ first_five (a || a') (b || b') (c || c') (s || s') (d || d')
+unfolding first_five
+first_five-join a b c s d a' b' c' s' d' =
+    join_pick NoWholePoint a a' (pick b Range (pick c Texture (pick s Surface (pick d Flat None)))) (pick b' Range (pick c' Texture (pick s' Surface (pick d' Flat None)))) refl
+    (first_pick NoWholePoint Range b _ refl refl (before_texture NoWholePoint c s d refl refl refl refl refl refl))
+    (first_pick NoWholePoint Range b' _ refl refl (before_texture NoWholePoint c' s' d' refl refl refl refl refl refl))
     ∙ ap (pick (a || a') NoWholePoint)
-    (join_pick Range b b' (pick c Texture (pick d Flat None)) (pick c' Texture (pick d' Flat None)) refl (before_texture Range c d refl refl refl refl) (before_texture Range c' d' refl refl refl refl)
-    ∙ ap (pick (b || b') Range)
-    (join_pick Texture c c' (pick d Flat None) (pick d' Flat None) refl (before_flat Texture d refl refl) (before_flat Texture d' refl refl)
-    ∙ ap (pick (c || c') Texture) (flats d d')))
+    (join_pick Range b b' (pick c Texture (pick s Surface (pick d Flat None))) (pick c' Texture (pick s' Surface (pick d' Flat None))) refl
+    (before_texture Range c s d refl refl refl refl refl refl) (before_texture Range c' s' d' refl refl refl refl refl refl)
+    ∙ ap (pick (b || b') Range) (from_texture c s d c' s' d'))
 
 -- such a reason comes before Many
-four_before_many : (a b c d : Bool) (r : Reason) → first_four a b c d ≡ Some r → first_reason Many r ≡ r
-unfolding first_four pick
-four_before_many true b c d r e = let is : NoWholePoint ≡ r = cc in ap (first_reason Many) (sym is) ∙ is
-four_before_many false true c d r e = let is : Range ≡ r = cc in ap (first_reason Many) (sym is) ∙ is
-four_before_many false false true d r e = let is : Texture ≡ r = cc in ap (first_reason Many) (sym is) ∙ is
-four_before_many false false false true r e = let is : Flat ≡ r = cc in ap (first_reason Many) (sym is) ∙ is
-four_before_many false false false false r e = absurd (cc)
+five_before_many : (a b c s d : Bool) (r : Reason) → first_five a b c s d ≡ Some r → first_reason Many r ≡ r
+unfolding first_five pick
+five_before_many true b c s d r e = let is : NoWholePoint ≡ r = cc in ap (first_reason Many) (sym is) ∙ is
+five_before_many false true c s d r e = let is : Range ≡ r = cc in ap (first_reason Many) (sym is) ∙ is
+five_before_many false false true s d r e = let is : Texture ≡ r = cc in ap (first_reason Many) (sym is) ∙ is
+five_before_many false false false true d r e = let is : Surface ≡ r = cc in ap (first_reason Many) (sym is) ∙ is
+five_before_many false false false false true r e = let is : Flat ≡ r = cc in ap (first_reason Many) (sym is) ∙ is
+five_before_many false false false false false r e = absurd (cc)
 
--- the first of the four that holds in some face
+-- the first of the five that holds in some face
 reason_in_faces : List FaceText → Option Reason
-reason_in_faces fs = first_four (list_any has_fraction fs) (list_any passes_range fs) (list_any (λ f. passes_limit f.texture) fs) (list_any lies_on_line fs)
+reason_in_faces fs = first_five (list_any has_fraction fs) (list_any passes_range fs) (list_any (λ f. passes_limit f.texture) fs) (list_any (λ f. has_no_surface f.surface) fs) (list_any lies_on_line fs)
 
 or_none : (a b : Bool) → (a || b) ≡ (a || (b || false))
 or_none true b = refl
@@ -158,25 +176,27 @@ reason_in_faces-more : (fs : List FaceText) (f : FaceText) → first_of (reason_
 unfolding reason_in_faces
 reason_in_faces-more fs f =
     ap (first_of (reason_in_faces fs)) (face_reason-is f)
-    ∙ first_four-join (list_any has_fraction fs) (list_any passes_range fs) (list_any (λ f. passes_limit f.texture) fs) (list_any lies_on_line fs)
-    (has_fraction f) (passes_range f) (passes_limit f.texture) (lies_on_line f)
-    ∙ (λ i. first_four (any_more has_fraction fs f i) (any_more passes_range fs f i) (any_more (λ f. passes_limit f.texture) fs f i) (any_more lies_on_line fs f i))
+    ∙ first_five-join (list_any has_fraction fs) (list_any passes_range fs) (list_any (λ f. passes_limit f.texture) fs) (list_any (λ f. has_no_surface f.surface) fs) (list_any lies_on_line fs)
+    (has_fraction f) (passes_range f) (passes_limit f.texture) (has_no_surface f.surface) (lies_on_line f)
+    ∙ (λ i. first_five (any_more has_fraction fs f i) (any_more passes_range fs f i) (any_more (λ f. passes_limit f.texture) fs f i)
+    (any_more (λ f. has_no_surface f.surface) fs f i) (any_more lies_on_line fs f i))
 
 many_if : ℕ → Option Reason
 many_if n = cond (nat_lt 256 n) (Some Many) None
 
-chain : (a b c d m : Bool) → or_else (first_four a b c d) (cond m (Some Many) None)
-    ≡ cond a (Some NoWholePoint) (cond b (Some Range) (cond c (Some Texture) (cond d (Some Flat) (cond m (Some Many) None))))
-unfolding first_four pick
-chain true b c d m = refl
-chain false true c d m = refl
-chain false false true d m = refl
-chain false false false true m = refl
-chain false false false false m = refl
+chain : (a b c s d m : Bool) → or_else (first_five a b c s d) (cond m (Some Many) None)
+    ≡ cond a (Some NoWholePoint) (cond b (Some Range) (cond c (Some Texture) (cond s (Some Surface) (cond d (Some Flat) (cond m (Some Many) None)))))
+unfolding first_five pick
+chain true b c s d m = refl
+chain false true c s d m = refl
+chain false false true s d m = refl
+chain false false false true d m = refl
+chain false false false false true m = refl
+chain false false false false false m = refl
 
 reason_of-is : (fs : List FaceText) → or_else (reason_in_faces fs) (many_if (length fs)) ≡ reason_of fs
 unfolding reason_in_faces many_if
-reason_of-is fs = chain (list_any has_fraction fs) (list_any passes_range fs) (list_any (λ f. passes_limit f.texture) fs) (list_any lies_on_line fs) (nat_lt 256 (length fs))
+reason_of-is fs = chain (list_any has_fraction fs) (list_any passes_range fs) (list_any (λ f. passes_limit f.texture) fs) (list_any (λ f. has_no_surface f.surface) fs) (list_any lies_on_line fs) (nat_lt 256 (length fs))
 
 -- ---- a brush with one more face
 
@@ -228,12 +248,12 @@ brush_by-is : (fs : List FaceText) → brush_by (reason_in_faces fs) (length fs)
 unfolding brush_by
 brush_by-is fs = ap (λ r. option_map_or Bad r (AllFaces (map face_of_text fs))) (reason_of-is fs)
 
-four_or_less : (f : FaceText) (r : Reason) → face_reason f ≡ Some r → first_reason Many r ≡ r
-four_or_less f r e = four_before_many (has_fraction f) (passes_range f) (passes_limit f.texture) (lies_on_line f) r (sym (face_reason-is f) ∙ e)
+five_or_less : (f : FaceText) (r : Reason) → face_reason f ≡ Some r → first_reason Many r ≡ r
+five_or_less f r e = five_before_many (has_fraction f) (passes_range f) (passes_limit f.texture) (has_no_surface f.surface) (lies_on_line f) r (sym (face_reason-is f) ∙ e)
 
 pub one_face_more : (fs : List FaceText) (f : FaceText) → with_face (raw_brush_of fs) (judge (face_reason f) (face_of_text f)) ≡ raw_brush_of (fs ++ f ∷ [])
 one_face_more fs f =
     ap (λ b. with_face b (judge (face_reason f) (face_of_text f))) (sym (brush_by-is fs))
-    ∙ brush_by-more (reason_in_faces fs) (face_reason f) (length fs) (map face_of_text fs) (face_of_text f) (length-map fs face_of_text) (four_or_less f)
+    ∙ brush_by-more (reason_in_faces fs) (face_reason f) (length fs) (map face_of_text fs) (face_of_text f) (length-map fs face_of_text) (five_or_less f)
     ∙ (λ i. brush_by (reason_in_faces-more fs f i) (sym (length-append fs (f ∷ [])) i) (sym (map-append face_of_text fs (f ∷ [])) i))
     ∙ brush_by-is (fs ++ f ∷ [])

@@ -18,12 +18,12 @@ use Rattle.map_text.specs.Refusals.{first_in_brush, a_face, rest_of_face, is_bra
 use Rattle.map_text.specs.Reading.{ReaderState, Passes, IsNext, IsRead, IsRefused, is_inner}
 use Rattle.map_text.specs.Judged.{with_face}
 use Rattle.map_text.specs.Parts.{face_part, brush_part, format_of_face, face_place, BeginsFace}
-use Rattle.map_text.proofs.Passing.{is_texture, passes_none, passes_as, passes_token, stops_token, bracket_of, joined, framed, all_appended, shorter, no_longer}
+use Rattle.map_text.proofs.Passing.{is_texture, passes_none, passes_as, passes_token, stops_token, bracket_of, joined, all_appended, shorter, no_longer}
 use Rattle.map_text.proofs.BrushReasons.{one_face_more}
 
 -- ---- the bracket of a face, or of the brush's end
 
-face_opens : (first : Bool) (t : TokenValue) → (first && names_block t) ≡ false → is_bracket 40 t ≡ true → (f : Option Format) → step f (face_place first) t ≡ fits (rest_of_face ++ (a_face ∷ []))
+face_opens : (first : Bool) (t : TokenValue) → (first && names_block t) ≡ false → is_bracket 40 t ≡ true → (f : Option Format) → step f (face_place first) t ≡ fits rest_of_face
 face_opens true t h k f = rw (h, k) refl
 face_opens false t h k f = rw k refl
 
@@ -45,7 +45,7 @@ no_texture_there false = refl
 
 pub begins_face_yes : (old new : ReaderState) (t : TokenValue) (first : Bool) → IsNext old t new → (first && names_block t) ≡ false → is_bracket 40 t ≡ true → BeginsFace old new first true
 begins_face_yes old new t first next h k =
-    passes_token old new (face_place first) t (rest_of_face ++ (a_face ∷ [])) (bracket 40) next (no_texture_there first) (face_opens first t h k old.first) (bracket_of t 40 k)
+    passes_token old new (face_place first) t rest_of_face (bracket 40) next (no_texture_there first) (face_opens first t h k old.first) (bracket_of t 40 k)
 
 pub begins_face_no : (old new : ReaderState) (t : TokenValue) (first : Bool) → IsNext old t new → (first && names_block t) ≡ false → is_bracket 40 t ≡ false → is_bracket 125 t ≡ true → BeginsFace old new first false
 begins_face_no old new t first next h k l =
@@ -74,13 +74,13 @@ pub no_faces : (start : ReaderState) (brush : RawBrush) → brush ≡ raw_brush_
 no_faces start brush e = record { texts = []; fit = refl; passes = passes_none start (first_in_brush ∷ []); meaning = e }
 
 pub face_more : {start s1 s2 s3 : ReaderState} {is_first : Bool} {brush : RawBrush} {face : Result Face Reason} → BrushSoFar start s1 is_first brush → BeginsFace s1 s2 is_first true
-    → IsRead face_part rest_of_face [] s2 s3 face → BrushSoFar start s3 false (with_face brush face)
+    → IsRead face_part rest_of_face (a_face ∷ []) s2 s3 face → BrushSoFar start s3 false (with_face brush face)
 face_more {start} {s1} {s2} {s3} {is_first} b begins f = record {
   texts = b.texts ++ f.text ∷ [];
   fit = all_appended face_fits b.texts (f.text ∷ []) b.fit (λ i. f.fit i && true);
   passes = passes_as
       (joined start s1 s3 (first_in_brush ∷ []) (face_place is_first ∷ []) (a_face ∷ []) _ _ _ _ b.passes
-      (joined s1 s2 s3 (face_place is_first ∷ []) (rest_of_face ++ (a_face ∷ [])) (a_face ∷ []) _ _ _ _ begins (framed s2 s3 rest_of_face [] _ _ (a_face ∷ []) f.passes)))
+      (joined s1 s2 s3 (face_place is_first ∷ []) rest_of_face (a_face ∷ []) _ _ _ _ begins f.passes))
       (ap (λ l. flat_map face_symbols b.texts ++ l) (sym (append-nil (face_symbols f.text))) ∙ sym (flat_map-append face_symbols b.texts (f.text ∷ [])))
       (sym (map-append format_of_face b.texts (f.text ∷ [])));
   meaning = (λ i. with_face (b.meaning i) (f.meaning i)) ∙ one_face_more b.texts f.text;
@@ -95,6 +95,6 @@ brush_read {start} {s1} {s2} {is_first} b ends = record {
   meaning = b.meaning;
 }
 
-pub face_shorter : {s1 s2 s3 : ReaderState} (is_first : Bool) {face : Result Face Reason} → BeginsFace s1 s2 is_first true → IsRead face_part rest_of_face [] s2 s3 face
+pub face_shorter : {s1 s2 s3 : ReaderState} (is_first : Bool) {face : Result Face Reason} → BeginsFace s1 s2 is_first true → IsRead face_part rest_of_face (a_face ∷ []) s2 s3 face
     → length s3.left.tokens < length s1.left.tokens
 face_shorter is_first begins f = let h = shorter begins in let k = no_longer f.passes in omega (arith, h, k)

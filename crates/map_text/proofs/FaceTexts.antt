@@ -14,11 +14,11 @@ use Rattle.map_text.specs.declared.document.Reason.TheVariants.{Point as NoWhole
 use Rattle.map_text.specs.declared.read_fault.ReadFault.TheVariants.{Expected}
 use Rattle.map_text.specs.declared.read_fault.What.TheVariants.{Material}
 use Rattle.map_text.specs.Grammar.{PointText, symbol_of}
-use Rattle.map_text.specs.Fits.{is_material, texture_numbers}
+use Rattle.map_text.specs.Fits.{is_material, texture_numbers, surface_numbers}
 use Rattle.map_text.specs.Meaning.{is_whole, whole_of, point_of, tex_of}
-use Rattle.map_text.specs.Refusals.{a_material, a_texture, rest_of_face}
+use Rattle.map_text.specs.Refusals.{a_material, a_texture, a_surface, a_face, rest_of_face}
 use Rattle.map_text.specs.Reading.{ReaderState, IsNext, IsRead, IsRefused}
-use Rattle.map_text.specs.Judged.{judge, first_of, or_else, coordinate_reason, point_reason, points_reason, texture_reason, flat_or, three_of, face_from}
+use Rattle.map_text.specs.Judged.{judge, first_of, or_else, coordinate_reason, point_reason, points_reason, texture_reason, surface_reason, flat_or, three_of, face_from}
 use Rattle.map_text.specs.Parts.{points_part, points_places, material_part, texture_part, face_part, point_fits}
 use Rattle.map_text.proofs.Passing.{next_part, all_appended, passes_token, stops_token, and_left, and_right}
 
@@ -85,9 +85,9 @@ face_by_reasons None (Some s) flat points t material tex is plane = refl
 face_by_reasons None None true points t material tex is plane = ap (λ x. flat_or (plane_of x) material tex) (sym is) ∙ ap (λ p. flat_or p material tex) (plane refl)
 face_by_reasons None None false points t material tex is plane = ap (λ x. flat_or (plane_of x) material tex) (sym is) ∙ ap (λ p. flat_or p material tex) (plane refl)
 
-face_fit : (p q r : PointText) (m : Bool) (numbers : List (List ℕ)) → (point_fits p && (point_fits q && point_fits r)) ≡ true → m ≡ true → list_all is_number_word numbers ≡ true
-    → (list_all is_number_word (p.x ∷ p.y ∷ p.z ∷ q.x ∷ q.y ∷ q.z ∷ r.x ∷ r.y ∷ r.z ∷ []) && (m && list_all is_number_word numbers)) ≡ true
-face_fit p q r m numbers h k l =
+face_fit : (p q r : PointText) (m n : Bool) → (point_fits p && (point_fits q && point_fits r)) ≡ true → m ≡ true → n ≡ true
+    → (list_all is_number_word (p.x ∷ p.y ∷ p.z ∷ q.x ∷ q.y ∷ q.z ∷ r.x ∷ r.y ∷ r.z ∷ []) && (m && n)) ≡ true
+face_fit p q r m n h k l =
     let qr : (point_fits q && point_fits r) ≡ true = and_right (point_fits p) _ h in
     let all : list_all is_number_word (p.x ∷ p.y ∷ p.z ∷ q.x ∷ q.y ∷ q.z ∷ r.x ∷ r.y ∷ r.z ∷ []) ≡ true =
     all_appended is_number_word (p.x ∷ p.y ∷ p.z ∷ []) (q.x ∷ q.y ∷ q.z ∷ r.x ∷ r.y ∷ r.z ∷ []) (and_left (point_fits p) _ h)
@@ -95,13 +95,15 @@ face_fit p q r m numbers h k l =
     (λ i. all i && (k i && l i))
 
 pub face_read : {s0 s1 s2 s3 : ReaderState} {points : Result (List Point) Reason} {material : List ℕ} {tex : Result Tex Reason} → IsRead points_part points_places [] s0 s1 points
-    → IsRead material_part (a_material ∷ []) [] s1 s2 material → IsRead texture_part (a_texture ∷ []) [] s2 s3 tex → IsRead face_part rest_of_face [] s0 s3 (face_from points material tex)
+    → IsRead material_part (a_material ∷ []) [] s1 s2 material → IsRead texture_part (a_texture ∷ a_surface ∷ []) (a_face ∷ []) s2 s3 tex
+    → IsRead face_part rest_of_face (a_face ∷ []) s0 s3 (face_from points material tex)
 face_read hp hm ht = record {
-  text = record { p0 = hp.text.0; p1 = hp.text.1; p2 = hp.text.2; material = hm.text; texture = ht.text };
-  fit = face_fit hp.text.0 hp.text.1 hp.text.2 (is_material hm.text) (texture_numbers ht.text) hp.fit hm.fit ht.fit;
+  text = record { p0 = hp.text.0; p1 = hp.text.1; p2 = hp.text.2; material = hm.text; texture = ht.text.0; surface = ht.text.1 };
+  fit = face_fit hp.text.0 hp.text.1 hp.text.2 (is_material hm.text)
+      (list_all is_number_word (texture_numbers ht.text.0) && list_all is_number_word (surface_numbers ht.text.1)) hp.fit hm.fit ht.fit;
   passes = next_part hp.passes (next_part hm.passes ht.passes);
   meaning = (λ i. face_from (hp.meaning i) (hm.meaning i) (ht.meaning i))
-      ∙ face_by_reasons (points_reason hp.text) (texture_reason ht.text) (is_flat (record { p0 = point_of hp.text.0; p1 = point_of hp.text.1; p2 = point_of hp.text.2 }))
+      ∙ face_by_reasons (points_reason hp.text) (or_else (texture_reason ht.text.0) (surface_reason ht.text.1)) (is_flat (record { p0 = point_of hp.text.0; p1 = point_of hp.text.1; p2 = point_of hp.text.2 }))
       (point_of hp.text.0 ∷ point_of hp.text.1 ∷ point_of hp.text.2 ∷ []) (record { p0 = point_of hp.text.0; p1 = point_of hp.text.1; p2 = point_of hp.text.2 })
-      hm.text.text (tex_of ht.text) refl (plane_near hp.text.0 hp.text.1 hp.text.2);
+      hm.text.text (tex_of ht.text.0 ht.text.1) refl (plane_near hp.text.0 hp.text.1 hp.text.2);
 }

@@ -1,7 +1,7 @@
 -- Parts of a brush and the first of the reasons against them.
 use Rattle.std.proofs.Common.{◌≡◌, Bool, true, false, ◌||◌, Option, None, Some, Result, Ok, refl, ap, ◌∙◌}
 use Rattle.map_text.specs.declared.document.Reason.{Reason}
-use Rattle.map_text.specs.Judged.{first_of, judge, both, and_then, texture_if}
+use Rattle.map_text.specs.Judged.{first_of, judge, both, and_then, reason_if, or_else}
 
 pub both_judged : {A B : Type 0} (r s : Option Reason) (a : A) (b : B) → both (judge r a) (judge s b) ≡ judge (first_of r s) (a, b)
 both_judged None None a b = refl
@@ -21,10 +21,16 @@ three_judged q r s a b c f =
     ∙ ap (λ x. and_then x (λ x. Ok (f x.0.0 x.0.1 x.1))) (both_judged (first_of q r) s (a, b) c)
     ∙ then_judged (first_of (first_of q r) s) ((a, b), c) (λ x. f x.0.0 x.0.1 x.1)
 
--- a number of a texture, and what follows it
-pub large_then : {A B : Type 0} (p q : Bool) (a : A) (b : B) (next : A → Result B Reason) → next a ≡ judge (texture_if q) b → and_then (judge (texture_if p) a) next ≡ judge (texture_if (p || q)) b
-large_then true q a b next e = refl
-large_then false q a b next e = e
+-- a part, and what follows it, with one reason against both
+pub large_then : {A B : Type 0} (r : Reason) (p q : Bool) (a : A) (b : B) (next : A → Result B Reason) → next a ≡ judge (reason_if q r) b
+    → and_then (judge (reason_if p r) a) next ≡ judge (reason_if (p || q) r) b
+large_then r true q a b next e = refl
+large_then r false q a b next e = e
 
-pub large_last : {A B : Type 0} (p : Bool) (a : A) (f : A → B) → and_then (judge (texture_if p) a) (λ x. Ok (f x)) ≡ judge (texture_if p) (f a)
-large_last p a f = then_judged (texture_if p) a f
+pub large_last : {A B : Type 0} (r : Reason) (p : Bool) (a : A) (f : A → B) → and_then (judge (reason_if p r) a) (λ x. Ok (f x)) ≡ judge (reason_if p r) (f a)
+large_last r p a f = then_judged (reason_if p r) a f
+
+-- a part, and what follows it, with a reason against each
+pub then_else : {A B : Type 0} (r s : Option Reason) (a : A) (b : B) (next : A → Result B Reason) → next a ≡ judge s b → and_then (judge r a) next ≡ judge (or_else r s) b
+then_else None s a b next e = e
+then_else (Some r) s a b next e = refl

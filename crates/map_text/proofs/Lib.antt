@@ -1,3 +1,7 @@
+mod FilledTexts
+mod FilledFaces
+mod FilledTextures
+mod FilledItems
 mod Fillings
 mod Acceptance
 mod OneReading
@@ -7,6 +11,7 @@ mod BrushTexts
 mod BrushReasons
 mod FaceTexts
 mod TextureTexts
+mod SurfaceTexts
 mod PointTexts
 mod Judging
 mod NumberTexts
@@ -20,5 +25,5 @@ pub mod BrushLemmas
 pub mod MapLemmas
 pub mod PlainLemmas
 pub mod WriteLemmas
-pub mod RoundLemmas
+pub mod SplitAgain
 pub mod SavedLemmas

@@ -1,5 +1,5 @@
 -- How reading goes on by one token, and from part to part.
-use Rattle.std.proofs.Common.{◌≡◌, ℕ, Bool, true, false, ◌&&◌, not, List, [], ◌∷◌, ◌++◌, map, Option, None, Some, Result, Err, IfOk, IfErr, refl, sym, ap, ◌∙◌, append_assoc, subst, length, length-append, arith, ◌<◌, ◌≤◌}
+use Rattle.std.proofs.Common.{◌≡◌, ℕ, Bool, true, false, ◌&&◌, not, cond, List, [], ◌∷◌, ◌++◌, map, slice_get, Option, None, Some, Result, Err, IfOk, IfErr, refl, sym, ap, ◌∙◌, append_assoc, subst, length, length-append, arith, ◌<◌, ◌≤◌}
 use Rattle.std.proofs.lemmas.Bool.{false≢true}
 use Rattle.std.proofs.lemmas.List.{length-map}
 use Rattle.std.proofs.lemmas.List.Folds.{list_all-append}
@@ -14,7 +14,7 @@ use Rattle.uv_lock.specs.declared.texture.Format.{Format}
 use Rattle.map_text.specs.declared.read_fault.ReadFault.{ReadFault}
 use Rattle.map_text.specs.declared.read_fault.ReadFault.TheVariants.{EndsEarly}
 use Rattle.map_text.specs.Grammar.{Symbol, symbol_of, bracket, word, quote}
-use Rattle.map_text.specs.Refusals.{Awaited, an_entity, an_item, a_value, first_in_brush, a_face, mark, a_number, a_material, a_texture, Step, fits, refused, step, settled, stopped_by, go_on, is_bracket}
+use Rattle.map_text.specs.Refusals.{Awaited, an_entity, an_item, a_value, first_in_brush, a_face, mark, a_number, a_material, a_texture, a_surface, Step, fits, refused, step, face_step, settled, stopped_by, go_on, is_bracket, is_number}
 use Rattle.map_text.specs.Reading.{ReaderState, reads_on, first_after, all_are, Passes, IsRefused, IsNext, is_inner}
 
 -- ---- one token
@@ -34,6 +34,7 @@ settled-other None (mark byte what) t h = refl
 settled-other None a_number t h = refl
 settled-other None a_material t h = refl
 settled-other None a_texture t h = absurd (false≢true (sym h))
+settled-other None a_surface t h = refl
 
 -- one step, by the table of places
 pub step_on : (last : ℕ) (first : Option Format) (place : Awaited) (places : List Awaited) (t : TokenValue) (tokens : List TokenValue) (fault : Option LexFault) (s : Step)
@@ -149,6 +150,7 @@ ends_inside old (mark byte what) none sound inner = λ rest. at_once old (mark b
 ends_inside old a_number none sound inner = λ rest. at_once old (a_number ∷ rest) None none sound
 ends_inside old a_material none sound inner = λ rest. at_once old (a_material ∷ rest) None none sound
 ends_inside old a_texture none sound inner = λ rest. at_once old (a_texture ∷ rest) None none sound
+ends_inside old a_surface none sound inner = λ rest. at_once old (a_surface ∷ rest) None none sound
 
 -- ---- the exit of a `?`
 
@@ -173,6 +175,31 @@ next_part {a} {b} {c} {p} {more} {r} {s} {t} {f} {g} x y = joined a b c (p ++ mo
 
 pub all_appended : {X : Type 0} (p : X → Bool) (xs ys : List X) → list_all p xs ≡ true → list_all p ys ≡ true → list_all p (xs ++ ys) ≡ true
 all_appended p xs ys h k = list_all-append p xs ys ∙ (λ i. h i && k i)
+
+-- ---- no surface numbers
+
+-- where no number stands behind the last scale, what stands there stands behind the face
+pub goes_without : (last : ℕ) (first : Option Format) (rest : List Awaited) (t : TokenValue) (tokens : List TokenValue) (fault : Option LexFault) → is_number t ≡ false
+    → go_on last first (a_surface ∷ rest) (t ∷ tokens) fault ≡ go_on last first (a_face ∷ rest) (t ∷ tokens) fault
+goes_without last first rest t tokens fault h =
+    step_on last first a_surface rest t tokens fault (face_step t) (ap (λ b. cond b (fits (a_number ∷ a_number ∷ a_face ∷ [])) (face_step t)) h)
+    ∙ ap (λ f. elim (face_step t) [ fits more ↦ go_on last f (more ++ rest) tokens fault | refused why ↦ stopped_by why ])
+    (settled-other first a_surface t refl ∙ sym (settled-other first a_face t refl))
+
+none_stands : (last : ℕ) (first : Option Format) (rest : List Awaited) (tokens : List TokenValue) (fault : Option LexFault) (o : Option TokenValue) → o ≡ slice_get tokens 0
+    → ((t : TokenValue) → o ≡ Some t → is_number t ≡ false) → go_on last first (a_surface ∷ rest) tokens fault ≡ go_on last first (a_face ∷ rest) tokens fault
+none_stands last first rest [] None o e h = refl
+none_stands last first rest [] (Some fault) o e h = refl
+none_stands last first rest (t ∷ tokens) fault o e h = goes_without last first rest t tokens fault (h t e)
+
+pub no_surface : (old : ReaderState) (o : Option TokenValue) → o ≡ slice_get old.left.tokens 0 → ((t : TokenValue) → o ≡ Some t → is_number t ≡ false) → Passes old old (a_surface ∷ []) (a_face ∷ []) [] []
+no_surface old o e h = record {
+  goes = λ rest. none_stands old.last old.first rest old.left.tokens old.left.fault o e h;
+  symbols = refl;
+  fault = refl;
+  first = first_after-none old.first;
+  one_format = all_are-none old.first;
+}
 
 -- ---- loops
 

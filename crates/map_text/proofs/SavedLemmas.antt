@@ -10,6 +10,7 @@ use Rattle.exact_geom.specs.declared.point.Point.{Point}
 use Rattle.exact_geom.specs.declared.plane.PlaneFault.{PlaneFault}
 use Rattle.exact_geom.specs.declared.plane.PlaneFault.TheVariants.{PointRange}
 use Rattle.exact_geom.specs.Planes.{ThreePoints, plane_of, is_flat, is_in_range}
+use Rattle.map_lex.specs.LineTexts.{text_of}
 use Rattle.map_text.specs.declared.plain_map.PlainFace.{PlainFace}
 use Rattle.map_text.specs.declared.plain_map.PlainBrush.{PlainBrush}
 use Rattle.map_text.specs.declared.plain_map.PlainMap.{PlainMap}
@@ -18,13 +19,13 @@ use Rattle.map_text.specs.Numbers.{is_short, is_name}
 use Rattle.map_text.specs.FaceLine.{words_at, numbers_at, points_places, texture_places, point_at, coordinates, has_plane, face_with, face_from, face_of, face_of_words, face_line}
 use Rattle.map_text.specs.Boxes.{is_box, is_in_world}
 use Rattle.map_text.specs.PlainForm.{faces_of, boxed, brushes_of, counted, map_of, plain_map, is_plain_face, is_plain_brush, is_plain_map}
-use Rattle.map_text.specs.SavedText.{text_of, brush_lines, brushes_lines, saved_lines, saved_text}
+use Rattle.map_text.specs.SavedText.{brush_lines, brushes_lines, saved_lines, saved_text}
 use Rattle.map_text.proofs.FaceLemmas.{face_parts}
 use Rattle.map_text.proofs.BrushLemmas.{boxed_brush}
 use Rattle.map_text.proofs.MapLemmas.{ended, head}
 use Rattle.map_text.proofs.PlainLemmas.{both_left, both_right}
 use Rattle.map_text.proofs.WriteLemmas.{face-spaced, map_written}
-use Rattle.map_text.proofs.RoundLemmas.{lacks, marks_lack, split_join, split_text, digits_of_short, digits_lack, name_lacks, words_lack, length-words_at, numbers-words_at}
+use Rattle.map_text.proofs.SplitAgain.{lacks, marks_lack, split_join, split_text, digits_of_short, digits_lack, name_lacks, words_lack, length-words_at, numbers-words_at}
 
 take_front : {A : Type 0} (xs ys : List A) (n : ℕ) → length xs ≡ n → take n (xs ++ ys) ≡ xs
 take_front [] ys n e = rw (← e) refl

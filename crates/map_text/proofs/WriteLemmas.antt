@@ -4,6 +4,7 @@ use Rattle.std.specs.List.{flat_map, join_with_byte, enumerate_from}
 use Rattle.std.specs.Fmt.{signed_decimal, decimal}
 use Rattle.std.proofs.lemmas.List.{drop_all}
 use Rattle.std.proofs.lemmas.List.Concat.{flat_map-append}
+use Rattle.map_lex.specs.LineTexts.{text_of}
 use Rattle.map_text.specs.declared.place.Place.{Place}
 use Rattle.map_text.specs.declared.place.Place.TheVariants.{Mark, Number}
 use Rattle.map_text.specs.declared.plain_map.PlainFace.{PlainFace}
@@ -11,7 +12,7 @@ use Rattle.map_text.specs.declared.plain_map.PlainBrush.{PlainBrush}
 use Rattle.map_text.specs.FaceLine.{words_at, number_count, points_places, texture_places, coordinates, face_line}
 use Rattle.map_text.specs.declared.plain_map.PlainMap.{PlainMap}
 use Rattle.exact_geom.specs.declared.point.Point.{Point}
-use Rattle.map_text.specs.SavedText.{text_of, brush_lines, brushes_lines, saved_text}
+use Rattle.map_text.specs.SavedText.{brush_lines, brushes_lines, saved_text}
 use Rattle.map_text.proofs.FaceLemmas.{drop_next}
 
 -- words with a space before each

@@ -1,15 +1,13 @@
 -- Which parts of the grammar are right: where numbers are number words, no key and no quoted material ends with a backslash, and all
--- faces have one format.
-use Rattle.std.specs.Prelude.{ℕ, Bool, true, false, ◌&&◌, not, nat_eq, List, [], ◌∷◌, map, slice_get, Option}
+-- faces have one format. `Reads` rests on it.
+use Rattle.std.specs.Prelude.{ℕ, Bool, true, false, ◌&&◌, not, List, [], ◌∷◌, map, slice_get, Option, None, Some}
 use Rattle.std.specs.Option.{option_map_or}
-use Rattle.std.specs.List.{flat_map, list_all, ends_with}
+use Rattle.std.specs.List.{flat_map, list_all}
 use Rattle.fixed_num.specs.Count.{is_number_word}
 use Rattle.uv_lock.specs.declared.texture.Format.{Format}
 use Rattle.uv_lock.specs.declared.texture.Format.TheVariants.{Standard, Valve}
-use Rattle.map_text.specs.Grammar.{Symbol, TextureText, standard, valve, FaceText, Item, property, brush}
-
-abbrev pub ends_with_backslash : List ℕ → Bool
-ends_with_backslash text = ends_with nat_eq text (92 ∷ [])
+use Rattle.map_lex.specs.OneToken.{ends_with_backslash}
+use Rattle.map_text.specs.Grammar.{Symbol, TextureText, standard, valve, SurfaceText, FaceText, Item, property, brush}
 
 -- A token that can be a material: a word, or a quoted text that doesn't end with a backslash.
 abbrev pub is_material : Symbol → Bool
@@ -24,8 +22,15 @@ texture_numbers (standard u_offset v_offset rotation u_scale v_scale) =
 texture_numbers (valve u v rotation u_scale v_scale) =
     u.x ∷ u.y ∷ u.z ∷ u.offset ∷ v.x ∷ v.y ∷ v.z ∷ v.offset ∷ rotation ∷ u_scale ∷ v_scale ∷ []
 
+abbrev pub surface_numbers : Option SurfaceText → List (List ℕ)
+surface_numbers None = []
+surface_numbers (Some s) = s.contents ∷ s.flags ∷ s.value ∷ []
+
 abbrev pub face_fits : FaceText → Bool
-face_fits f = list_all is_number_word (coordinates f) && (is_material f.material && list_all is_number_word (texture_numbers f.texture))
+face_fits f =
+    list_all is_number_word (coordinates f)
+    && (is_material f.material
+    && (list_all is_number_word (texture_numbers f.texture) && list_all is_number_word (surface_numbers f.surface)))
 
 abbrev pub item_fits : Item → Bool
 item_fits (property key value) = not (ends_with_backslash key)

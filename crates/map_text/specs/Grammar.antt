@@ -1,5 +1,5 @@
--- The grammar of map texts: what a file is made of, and the tokens of each part of it, in order.
-use Rattle.std.specs.Prelude.{ℕ, Bool, true, false, List, [], ◌∷◌, ◌++◌}
+-- The grammar of map texts: what a file is made of, and the tokens of each part of it, in order. `Reads` rests on it.
+use Rattle.std.specs.Prelude.{ℕ, Bool, true, false, List, [], ◌∷◌, ◌++◌, Option, None, Some}
 use Rattle.std.specs.List.{flat_map}
 use Rattle.map_lex.specs.TokenList.{TokenValue}
 
@@ -51,17 +51,29 @@ texture_symbols (standard u_offset v_offset rotation u_scale v_scale) =
 texture_symbols (valve u v rotation u_scale v_scale) =
     axis_symbols u ++ (axis_symbols v ++ (word rotation ∷ word u_scale ∷ word v_scale ∷ []))
 
--- A face: three points, a material, a texture.
+-- The surface numbers of a face.
+pub record SurfaceText : Type 0 where
+  pub contents : List ℕ
+  pub flags : List ℕ
+  pub value : List ℕ
+
+abbrev pub surface_symbols : Option SurfaceText → List Symbol
+surface_symbols None = []
+surface_symbols (Some s) = word s.contents ∷ word s.flags ∷ word s.value ∷ []
+
+-- A face: three points, a material, a texture, and perhaps surface numbers.
 pub record FaceText : Type 0 where
   pub p0 : PointText
   pub p1 : PointText
   pub p2 : PointText
   pub material : Symbol
   pub texture : TextureText
+  pub surface : Option SurfaceText
 
 abbrev pub face_symbols : FaceText → List Symbol
 face_symbols f =
-    point_symbols f.p0 ++ (point_symbols f.p1 ++ (point_symbols f.p2 ++ (f.material ∷ texture_symbols f.texture)))
+    point_symbols f.p0 ++ (point_symbols f.p1 ++ (point_symbols f.p2
+    ++ (f.material ∷ (texture_symbols f.texture ++ surface_symbols f.surface))))
 
 -- What stands in an entity: a property, or a brush.
 pub data Item : Type 0 where

@@ -1,10 +1,10 @@
--- How an item of an entity begins.
+-- How an item of an entity begins. Only the contracts of the reader's inner functions speak of it: no promise of `read_map` rests on it.
 use Rattle.std.specs.Prelude.{◌≡◌, Bool, true, false, not, IsTrue, [], ◌∷◌, Option, None, Some}
 use Rattle.map_lex.specs.TokenList.{no_more}
+use Rattle.map_lex.specs.OneToken.{ends_with_backslash}
 use Rattle.map_text.specs.declared.entity_text.ItemStart.{ItemStart}
 use Rattle.map_text.specs.declared.entity_text.ItemStart.TheVariants.{Key, Brush}
 use Rattle.map_text.specs.Grammar.{bracket, quote}
-use Rattle.map_text.specs.Fits.{ends_with_backslash}
 use Rattle.map_text.specs.Refusals.{an_entity, an_item, a_value, first_in_brush}
 use Rattle.map_text.specs.Reading.{ReaderState, Passes}
 

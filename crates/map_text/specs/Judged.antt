@@ -1,9 +1,11 @@
--- Parts of a brush by the words that spell them, or the first reason why the brush is bad.
+-- Parts of a brush by the words that spell them, or the first reason why the brush is bad. Only the contracts of the reader's inner
+-- functions speak of it: no promise of `read_map` rests on it.
 use Rattle.std.specs.Prelude.{ℕ, Bool, not, nat_lt, if◌then◌else◌, List, [], ◌∷◌, ◌++◌, length, Option, None, Some, Result, Ok, Err, ℤ, pos, unsigned_abs, slice_index_or}
 use Rattle.exact_geom.specs.declared.point.Point.{Point}
 use Rattle.exact_geom.specs.Planes.{ThreePoints, plane_of}
 use Rattle.fixed_num.specs.Count.{count_of}
 use Rattle.map_lex.specs.TokenList.{TokenValue}
+use Rattle.uv_lock.specs.SurfaceNumbers.{SurfaceNumbers}
 use Rattle.uv_lock.specs.declared.face.Face.{Face}
 use Rattle.exact_geom.specs.declared.plane.PlaneFault.{PlaneFault}
 use Rattle.uv_lock.specs.declared.texture.Tex.{Tex}
@@ -11,10 +13,10 @@ use Rattle.uv_lock.specs.declared.texture.Tex.TheVariants.{Standard as StandardF
 use Rattle.map_text.specs.declared.document.RawBrush.{RawBrush}
 use Rattle.map_text.specs.declared.document.RawBrush.TheVariants.{Faces as AllFaces, Bad}
 use Rattle.map_text.specs.declared.document.Reason.{Reason}
-use Rattle.map_text.specs.declared.document.Reason.TheVariants.{Point as NoWholePoint, Range, Texture, Flat, Many, Volume, World, Faces}
-use Rattle.map_text.specs.Grammar.{PointText, TextureText, FaceText}
+use Rattle.map_text.specs.declared.document.Reason.TheVariants.{Point as NoWholePoint, Range, Texture, Surface, Flat, Many, Volume, World, Faces}
+use Rattle.map_text.specs.Grammar.{PointText, TextureText, SurfaceText, FaceText}
 use Rattle.map_text.specs.Refusals.{is_number}
-use Rattle.map_text.specs.Meaning.{is_whole, whole_of, is_large, passes_limit, lies_on_line}
+use Rattle.map_text.specs.Meaning.{is_whole, whole_of, is_large, passes_limit, is_bits, has_no_surface, lies_on_line}
 
 -- Of two reasons the first in their order.
 abbrev pub first_reason : Reason → Reason → Reason
@@ -24,6 +26,8 @@ first_reason Range b = Range
 first_reason a Range = Range
 first_reason Texture b = Texture
 first_reason a Texture = Texture
+first_reason Surface b = Surface
+first_reason a Surface = Surface
 first_reason Flat b = Flat
 first_reason a Flat = Flat
 first_reason Many b = Many
@@ -66,12 +70,15 @@ point_reason p = first_of (first_of (coordinate_reason p.x) (coordinate_reason p
 abbrev pub points_reason : PointText × PointText × PointText → Option Reason
 points_reason ps = first_of (first_of (point_reason ps.0) (point_reason ps.1)) (point_reason ps.2)
 
--- A number that is as large is no number of a texture.
-abbrev pub texture_if : Bool → Option Reason
-texture_if large = if large then Some Texture else None
+-- A reason, where the test holds.
+abbrev pub reason_if : Bool → Reason → Option Reason
+reason_if test reason = if test then Some reason else None
 
 abbrev pub texture_reason : TextureText → Option Reason
-texture_reason t = texture_if (passes_limit t)
+texture_reason t = reason_if (passes_limit t) Texture
+
+abbrev pub surface_reason : Option SurfaceText → Option Reason
+surface_reason s = reason_if (has_no_surface s) Surface
 
 -- The first of these reasons that is there.
 abbrev pub or_else : Option Reason → Option Reason → Option Reason
@@ -80,14 +87,27 @@ or_else (Some a) b = Some a
 
 -- Why a face makes its brush bad.
 abbrev pub face_reason : FaceText → Option Reason
-face_reason f = or_else (points_reason (f.p0, f.p1, f.p2)) (or_else (texture_reason f.texture) (if lies_on_line f then Some Flat else None))
+face_reason f =
+    or_else (points_reason (f.p0, f.p1, f.p2))
+    (or_else (or_else (texture_reason f.texture) (surface_reason f.surface)) (reason_if (lies_on_line f) Flat))
 
 -- What a token spells, if it is a number word.
 abbrev pub coordinate_in : TokenValue → Option (Result ℤ Reason)
 coordinate_in t = if is_number t then Some (judge (coordinate_reason t.text) (whole_of t.text)) else None
 
-abbrev pub texture_number_in : TokenValue → Option (Result ℤ Reason)
-texture_number_in t = if is_number t then Some (judge (texture_if (is_large 6 t.text)) (count_of 6 t.text)) else None
+-- What the word means as a number of so many decimals, where a large one is no part for this reason.
+abbrev pub count_or : Reason → ℕ → List ℕ → Result ℤ Reason
+count_or reason decimals w = judge (reason_if (is_large decimals w) reason) (count_of decimals w)
+
+abbrev pub count_in : Reason → ℕ → TokenValue → Option (Result ℤ Reason)
+count_in reason decimals t = if is_number t then Some (count_or reason decimals t.text) else None
+
+-- What the word means as contents or flags.
+abbrev pub bits_or : List ℕ → Result ℤ Reason
+bits_or w = judge (reason_if (not (is_bits w)) Surface) (whole_of w)
+
+abbrev pub bits_in : TokenValue → Option (Result ℤ Reason)
+bits_in t = if is_number t then Some (bits_or t.text) else None
 
 -- The parts made of their numbers.
 abbrev pub point_from : Result ℤ Reason → Result ℤ Reason → Result ℤ Reason → Result Point Reason
@@ -110,20 +130,31 @@ with_face (AllFaces faces) (Ok face) = if nat_lt (length faces) 256 then AllFace
 abbrev pub turn_from : Result ℤ Reason → Result ℤ Reason → Result ℤ Reason → Result (ℤ × List ℤ) Reason
 turn_from rotation u v = and_then rotation (λ rotation. and_then u (λ u. and_then v (λ v. Ok ((rotation, u ∷ v ∷ [])))))
 
-abbrev pub standard_from : Result ℤ Reason → Result ℤ Reason → Result (ℤ × List ℤ) Reason → Result Tex Reason
-standard_from u v turn = and_then u (λ u. and_then v (λ v. and_then turn (λ turn. Ok (StandardFields (record {
-  off = u ∷ v ∷ [];
-  rotation = turn.0;
-  scale = turn.1;
-})))))
+abbrev pub surface_from : Result ℤ Reason → Result ℤ Reason → Result ℤ Reason → Result (Option SurfaceNumbers) Reason
+surface_from contents flags value =
+    and_then contents (λ contents. and_then flags (λ flags. and_then value (λ value.
+    Ok (Some (record { contents = contents; flags = flags; value = value })))))
 
-abbrev pub valve_from : Result (List ℤ × ℤ) Reason → Result (List ℤ × ℤ) Reason → Result (ℤ × List ℤ) Reason → Result Tex Reason
-valve_from u v turn = and_then u (λ u. and_then v (λ v. and_then turn (λ turn. Ok (ValveFields (record {
-  axis = u.0 ∷ v.0 ∷ [];
-  off = u.1 ∷ v.1 ∷ [];
-  rotation = turn.0;
-  scale = turn.1;
-})))))
+abbrev pub standard_from : Result ℤ Reason → Result ℤ Reason → Result (ℤ × List ℤ) Reason → Result (Option SurfaceNumbers) Reason
+    → Result Tex Reason
+standard_from u v turn surface =
+    and_then u (λ u. and_then v (λ v. and_then turn (λ turn. and_then surface (λ surface. Ok (StandardFields (record {
+      off = u ∷ v ∷ [];
+      rotation = turn.0;
+      scale = turn.1;
+      surface = surface;
+    }))))))
+
+abbrev pub valve_from : Result (List ℤ × ℤ) Reason → Result (List ℤ × ℤ) Reason → Result (ℤ × List ℤ) Reason
+    → Result (Option SurfaceNumbers) Reason → Result Tex Reason
+valve_from u v turn surface =
+    and_then u (λ u. and_then v (λ v. and_then turn (λ turn. and_then surface (λ surface. Ok (ValveFields (record {
+      axis = u.0 ∷ v.0 ∷ [];
+      off = u.1 ∷ v.1 ∷ [];
+      rotation = turn.0;
+      scale = turn.1;
+      surface = surface;
+    }))))))
 
 -- Three points of a list of three.
 abbrev pub three_of : List Point → ThreePoints

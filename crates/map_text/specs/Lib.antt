@@ -13,3 +13,4 @@ pub mod Judged
 pub mod Reading
 pub mod Parts
 pub mod Items
+pub mod Spelled

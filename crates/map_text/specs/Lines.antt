@@ -3,8 +3,8 @@ use Rattle.std.specs.Prelude.{ℕ, Bool, not, ◌&&◌, ◌||◌, ◌==◌, nat_
 use Rattle.std.specs.List.{slice_split, filter, list_all, starts_with, ends_with}
 
 -- The lines of a text: it is cut at its line feeds.
-abbrev pub lines_of : List ℕ → List (List ℕ)
-lines_of text = slice_split (λ b. b == 10) text
+abbrev pub between_feeds : List ℕ → List (List ℕ)
+between_feeds text = slice_split (λ b. b == 10) text
 
 -- The words of a line: it is cut at its spaces, so two spaces have an empty word between them.
 abbrev pub words_of : List ℕ → List (List ℕ)
@@ -23,4 +23,4 @@ abbrev pub is_kept : List ℕ → Bool
 is_kept line = not (length line == 0 || is_comment line)
 
 abbrev pub kept_lines : List ℕ → List (List ℕ)
-kept_lines text = filter is_kept (lines_of text)
+kept_lines text = filter is_kept (between_feeds text)

@@ -1,12 +1,14 @@
--- What the parts of a map text mean: the document of a file.
-use Rattle.std.specs.Prelude.{ℕ, ◌*◌, ◌^◌, Bool, ◌||◌, not, nat_lt, nat_le, if◌then◌else◌, List, [], ◌∷◌, length, map, Option, None, Some, ℤ, pos, unsigned_abs, int_div, int_rem, codes}
+-- What the parts of a map text mean: the document of a file. `Reads` rests on it.
+use Rattle.std.specs.Prelude.{ℕ, ◌*◌, ◌^◌, Bool, false, ◌&&◌, ◌||◌, not, nat_lt, nat_le, int_le, if◌then◌else◌, List, [], ◌∷◌, length, map, Option, None, Some, ℤ, pos, negsuc, unsigned_abs, int_div, int_rem, codes}
 use Rattle.std.specs.Ordering.{int_eq}
-use Rattle.std.specs.Option.{option_map_or}
+use Rattle.std.specs.Option.{option_map, option_map_or}
 use Rattle.std.specs.List.{flat_map, list_any}
 use Rattle.std.specs.Str.{bytes_eq}
 use Rattle.exact_geom.specs.declared.point.Point.{Point}
 use Rattle.exact_geom.specs.Planes.{ThreePoints, is_flat}
 use Rattle.fixed_num.specs.Count.{count_of}
+use Rattle.fixed_num.specs.Decimals.{point_decimals, axis_decimals, offset_decimals, rotation_decimals, scale_decimals, surface_decimals}
+use Rattle.uv_lock.specs.SurfaceNumbers.{SurfaceNumbers}
 use Rattle.uv_lock.specs.declared.face.Face.{Face}
 use Rattle.uv_lock.specs.declared.texture.Format.{Format}
 use Rattle.uv_lock.specs.declared.texture.Format.TheVariants.{Standard, Valve}
@@ -17,27 +19,11 @@ use Rattle.map_text.specs.declared.document.RawEntity.{RawEntity}
 use Rattle.map_text.specs.declared.document.RawBrush.{RawBrush}
 use Rattle.map_text.specs.declared.document.RawBrush.TheVariants.{Faces, Bad}
 use Rattle.map_text.specs.declared.document.Reason.{Reason}
-use Rattle.map_text.specs.declared.document.Reason.TheVariants.{Point as NoWholePoint, Range, Texture, Flat, Many}
-use Rattle.map_text.specs.Grammar.{PointText, AxisText, TextureText, standard, valve, FaceText, Item, property, brush}
+use Rattle.map_text.specs.declared.document.Reason.TheVariants.{Point as NoWholePoint, Range, Texture, Surface, Flat, Many}
+use Rattle.map_text.specs.Grammar.{PointText, AxisText, TextureText, standard, valve, SurfaceText, FaceText, Item, property, brush}
 use Rattle.map_text.specs.Fits.{coordinates, first_format}
 
--- The decimals to which numbers are rounded.
-abbrev pub point_decimals : ℕ
-point_decimals = 6
-
-abbrev pub axis_decimals : ℕ
-axis_decimals = 6
-
-abbrev pub offset_decimals : ℕ
-offset_decimals = 6
-
-abbrev pub rotation_decimals : ℕ
-rotation_decimals = 6
-
-abbrev pub scale_decimals : ℕ
-scale_decimals = 6
-
--- The word of a coordinate is whole once it is rounded.
+-- The word is whole once it is rounded as the coordinate of a point is.
 abbrev pub is_whole : List ℕ → Bool
 is_whole w = int_eq (int_rem (count_of point_decimals w) (pos (10 ^ point_decimals))) (pos 0)
 
@@ -53,21 +39,27 @@ three_points_of f = record { p0 = point_of f.p0; p1 = point_of f.p1; p2 = point_
 abbrev pub axis_of : AxisText → List ℤ
 axis_of a = count_of axis_decimals a.x ∷ count_of axis_decimals a.y ∷ count_of axis_decimals a.z ∷ []
 
-abbrev pub tex_of : TextureText → Tex
-tex_of (standard u_offset v_offset rotation u_scale v_scale) = StandardFields (record {
+abbrev pub surface_of : SurfaceText → SurfaceNumbers
+surface_of s = record { contents = whole_of s.contents; flags = whole_of s.flags; value = count_of surface_decimals s.value }
+
+-- The texture fields of a face, with its surface numbers.
+abbrev pub tex_of : TextureText → Option SurfaceText → Tex
+tex_of (standard u_offset v_offset rotation u_scale v_scale) surface = StandardFields (record {
   off = count_of offset_decimals u_offset ∷ count_of offset_decimals v_offset ∷ [];
   rotation = count_of rotation_decimals rotation;
   scale = count_of scale_decimals u_scale ∷ count_of scale_decimals v_scale ∷ [];
+  surface = option_map surface_of surface;
 })
-tex_of (valve u v rotation u_scale v_scale) = ValveFields (record {
+tex_of (valve u v rotation u_scale v_scale) surface = ValveFields (record {
   axis = axis_of u ∷ axis_of v ∷ [];
   off = count_of offset_decimals u.offset ∷ count_of offset_decimals v.offset ∷ [];
   rotation = count_of rotation_decimals rotation;
   scale = count_of scale_decimals u_scale ∷ count_of scale_decimals v_scale ∷ [];
+  surface = option_map surface_of surface;
 })
 
 abbrev pub face_of_text : FaceText → Face
-face_of_text f = record { plane = three_points_of f; material = f.material.text; tex = tex_of f.texture }
+face_of_text f = record { plane = three_points_of f; material = f.material.text; tex = tex_of f.texture f.surface }
 
 -- Some coordinate isn't whole.
 abbrev pub has_fraction : FaceText → Bool
@@ -92,6 +84,17 @@ passes_limit (standard u_offset v_offset rotation u_scale v_scale) =
 passes_limit (valve u v rotation u_scale v_scale) =
     is_axis_large u || (is_axis_large v || (is_large rotation_decimals rotation || list_any (is_large scale_decimals) (u_scale ∷ v_scale ∷ [])))
 
+-- The word of contents or flags: whole once it is rounded, and 32 bits, as a signed or an unsigned number.
+abbrev pub is_bits : List ℕ → Bool
+is_bits w = is_whole w && (int_le (negsuc 2147483647) (whole_of w) && int_le (whole_of w) (pos 4294967295))
+
+-- The words are no surface numbers.
+abbrev pub is_no_surface : SurfaceText → Bool
+is_no_surface s = not (is_bits s.contents) || (not (is_bits s.flags) || is_large surface_decimals s.value)
+
+abbrev pub has_no_surface : Option SurfaceText → Bool
+has_no_surface surface = option_map_or is_no_surface surface false
+
 -- The points lie on a line.
 abbrev pub lies_on_line : FaceText → Bool
 lies_on_line f = is_flat (three_points_of f)
@@ -102,9 +105,10 @@ reason_of faces =
     if list_any has_fraction faces then Some NoWholePoint
     else (if list_any passes_range faces then Some Range
     else (if list_any (λ f. passes_limit f.texture) faces then Some Texture
+    else (if list_any (λ f. has_no_surface f.surface) faces then Some Surface
     else (if list_any lies_on_line faces then Some Flat
     else (if nat_lt 256 (length faces) then Some Many
-    else None))))
+    else None)))))
 
 abbrev pub raw_brush_of : List FaceText → RawBrush
 raw_brush_of faces = option_map_or Bad (reason_of faces) (Faces (map face_of_text faces))

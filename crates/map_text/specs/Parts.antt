@@ -1,10 +1,14 @@
--- The parts of a map text as a reader meets them: each behind its first token, where that tells which part it is.
-use Rattle.std.specs.Prelude.{ℕ, ◌&&◌, ◌||◌, Bool, true, false, List, [], ◌∷◌, ◌++◌, map, Result, ℤ}
+-- The parts of a map text as a reader meets them: each behind its first token, where that tells which part it is. Only the contracts of
+-- the reader's inner functions speak of it: no promise of `read_map` rests on it.
+use Rattle.std.specs.Prelude.{ℕ, ◌&&◌, ◌||◌, Bool, true, false, List, [], ◌∷◌, ◌++◌, map, Option, None, Some, Result, ℤ}
 use Rattle.std.specs.Borrow.{Bor}
+use Rattle.std.specs.Option.{option_map}
 use Rattle.std.specs.List.{flat_map, list_all}
 use Rattle.std.specs.Str.{bytes_eq}
 use Rattle.exact_geom.specs.declared.point.Point.{Point}
 use Rattle.fixed_num.specs.Count.{is_number_word, count_of}
+use Rattle.fixed_num.specs.Decimals.{offset_decimals, rotation_decimals, scale_decimals}
+use Rattle.uv_lock.specs.SurfaceNumbers.{SurfaceNumbers}
 use Rattle.uv_lock.specs.declared.face.Face.{Face}
 use Rattle.uv_lock.specs.declared.texture.Format.{Format}
 use Rattle.uv_lock.specs.declared.texture.Format.TheVariants.{Standard, Valve}
@@ -12,15 +16,16 @@ use Rattle.uv_lock.specs.declared.texture.Tex.{Tex}
 use Rattle.map_text.specs.declared.document.RawBrush.{RawBrush}
 use Rattle.map_text.specs.declared.document.RawEntity.{RawEntity}
 use Rattle.map_text.specs.declared.document.Reason.{Reason}
+use Rattle.map_text.specs.declared.document.Reason.TheVariants.{Texture}
 use Rattle.map_text.specs.declared.texture_text.TextureStart.{TextureStart}
 use Rattle.map_text.specs.declared.texture_text.TextureStart.TheVariants.{Axes, Offset}
 use Rattle.map_text.specs.declared.read_fault.What.TheVariants.{Point as APoint}
-use Rattle.map_text.specs.Grammar.{Symbol, word, quote, bracket, PointText, AxisText, TextureText, texture_symbols, FaceText, face_symbols, Item, item_symbols}
-use Rattle.map_text.specs.Fits.{is_material, texture_numbers, face_fits, item_fits, format_of, faces_of}
-use Rattle.map_text.specs.Meaning.{whole_of, is_large, is_axis_large, point_of, axis_of, tex_of, face_of_text, raw_brush_of, raw_entity_of}
-use Rattle.map_text.specs.Refusals.{Awaited, first_in_brush, a_face, mark, a_number, a_texture, rest_of_point, rest_of_face, rest_of_texture}
+use Rattle.map_text.specs.Grammar.{Symbol, word, quote, bracket, PointText, AxisText, TextureText, texture_symbols, SurfaceText, surface_symbols, FaceText, face_symbols, Item, item_symbols}
+use Rattle.map_text.specs.Fits.{is_material, texture_numbers, surface_numbers, face_fits, item_fits, format_of, faces_of}
+use Rattle.map_text.specs.Meaning.{whole_of, is_large, is_axis_large, point_of, axis_of, surface_of, tex_of, face_of_text, raw_brush_of, raw_entity_of}
+use Rattle.map_text.specs.Refusals.{Awaited, first_in_brush, a_face, mark, a_number, a_texture, a_surface, rest_of_point, rest_of_face, rest_of_texture}
 use Rattle.map_text.specs.Reading.{ReaderState, Passes, Part, IsRead}
-use Rattle.map_text.specs.Judged.{judge, coordinate_reason, point_reason, points_reason, texture_if, texture_reason, face_reason}
+use Rattle.map_text.specs.Judged.{judge, coordinate_reason, point_reason, points_reason, reason_if, texture_reason, surface_reason, face_reason, count_or, bits_or, or_else}
 
 -- The word of a coordinate.
 abbrev pub coordinate_part : Part (List ℕ) (Result ℤ Reason)
@@ -31,13 +36,22 @@ coordinate_part = record {
   meaning = λ w. judge (coordinate_reason w) (whole_of w);
 }
 
--- The word of a texture's number.
-abbrev pub number_part : Part (List ℕ) (Result ℤ Reason)
-number_part = record {
+-- The word of a number of so many decimals, where a large one is no part for this reason.
+abbrev pub number_part : Reason → ℕ → Part (List ℕ) (Result ℤ Reason)
+number_part reason decimals = record {
   fits = is_number_word;
   symbols = λ w. word w ∷ [];
   formats = λ w. [];
-  meaning = λ w. judge (texture_if (is_large 6 w)) (count_of 6 w);
+  meaning = count_or reason decimals;
+}
+
+-- The word of contents or flags.
+abbrev pub bits_part : Part (List ℕ) (Result ℤ Reason)
+bits_part = record {
+  fits = is_number_word;
+  symbols = λ w. word w ∷ [];
+  formats = λ w. [];
+  meaning = bits_or;
 }
 
 -- The part, in a face of this format.
@@ -81,7 +95,7 @@ axis_part = record {
   fits = λ a. list_all is_number_word (a.x ∷ a.y ∷ a.z ∷ a.offset ∷ []);
   symbols = λ a. word a.x ∷ word a.y ∷ word a.z ∷ word a.offset ∷ bracket 93 ∷ [];
   formats = λ a. [];
-  meaning = λ a. judge (texture_if (is_axis_large a)) (axis_of a, count_of 6 a.offset);
+  meaning = λ a. judge (reason_if (is_axis_large a) Texture) (axis_of a, count_of offset_decimals a.offset);
 }
 
 -- Three words: the rotation and the scales along U and V.
@@ -93,21 +107,34 @@ turn_part = record {
   fits = λ t. list_all is_number_word (t.0 ∷ t.1 ∷ t.2 ∷ []);
   symbols = λ t. word t.0 ∷ word t.1 ∷ word t.2 ∷ [];
   formats = λ t. [];
-  meaning = λ t. judge (texture_if (is_large 6 t.0 || (is_large 6 t.1 || (is_large 6 t.2 || false))))
-      (count_of 6 t.0, count_of 6 t.1 ∷ count_of 6 t.2 ∷ []);
+  meaning = λ t.
+      judge (reason_if (is_large rotation_decimals t.0 || (is_large scale_decimals t.1 || (is_large scale_decimals t.2 || false))) Texture)
+      (count_of rotation_decimals t.0, count_of scale_decimals t.1 ∷ count_of scale_decimals t.2 ∷ []);
 }
 
-abbrev pub texture_part : Part TextureText (Result Tex Reason)
+-- What stands behind the last scale, if surface numbers do.
+abbrev pub surface_part : Part (Option SurfaceText) (Result (Option SurfaceNumbers) Reason)
+surface_part = record {
+  fits = λ s. list_all is_number_word (surface_numbers s);
+  symbols = surface_symbols;
+  formats = λ s. [];
+  meaning = λ s. judge (surface_reason s) (option_map surface_of s);
+}
+
+-- A texture, and what stands behind it.
+abbrev pub texture_part : Part (TextureText × Option SurfaceText) (Result Tex Reason)
 texture_part = record {
-  fits = λ t. list_all is_number_word (texture_numbers t);
-  symbols = texture_symbols;
-  formats = λ t. format_of t ∷ [];
-  meaning = λ t. judge (texture_reason t) (tex_of t);
+  fits = λ t. list_all is_number_word (texture_numbers t.0) && list_all is_number_word (surface_numbers t.1);
+  symbols = λ t. texture_symbols t.0 ++ surface_symbols t.1;
+  formats = λ t. format_of t.0 ∷ [];
+  meaning = λ t. judge (or_else (texture_reason t.0) (surface_reason t.1)) (tex_of t.0 t.1);
 }
 
 -- A face behind its first bracket.
 abbrev pub face_end : FaceText → List Symbol
-face_end f = point_end f.p0 ++ (bracket 40 ∷ point_end f.p1 ++ (bracket 40 ∷ point_end f.p2 ++ (f.material ∷ texture_symbols f.texture)))
+face_end f =
+    point_end f.p0 ++ (bracket 40 ∷ point_end f.p1 ++ (bracket 40 ∷ point_end f.p2
+    ++ (f.material ∷ (texture_symbols f.texture ++ surface_symbols f.surface))))
 
 abbrev pub format_of_face : FaceText → Format
 format_of_face f = format_of f.texture
@@ -145,13 +172,19 @@ face_place false = a_face
 
 -- A face begins there, or the brush ends.
 abbrev pub BeginsFace : ReaderState → ReaderState → Bool → Bool → Type 0
-BeginsFace old new is_first true = Passes old new (face_place is_first ∷ []) (rest_of_face ++ (a_face ∷ [])) (bracket 40 ∷ []) []
+BeginsFace old new is_first true = Passes old new (face_place is_first ∷ []) rest_of_face (bracket 40 ∷ []) []
 BeginsFace old new is_first false = Passes old new (face_place is_first ∷ []) [] (bracket 125 ∷ []) []
 
 -- The texture of a face begins: with the bracket of its first axis, or with its first offset.
 abbrev pub BeginsTexture : ReaderState → ReaderState → TextureStart → Type 0
 BeginsTexture old new Axes = Passes old new (a_texture ∷ []) (rest_of_texture Valve) (bracket 91 ∷ []) (Valve ∷ [])
-BeginsTexture old new (Offset number) = IsRead (with_format Standard number_part) (a_texture ∷ []) (rest_of_texture Standard) old new number
+BeginsTexture old new (Offset number) =
+    IsRead (with_format Standard (number_part Texture offset_decimals)) (a_texture ∷ []) (rest_of_texture Standard) old new number
+
+-- Surface numbers begin with the contents, or what stands there may stand behind a face.
+abbrev pub BeginsSurface : ReaderState → ReaderState → Option (Result ℤ Reason) → Type 0
+BeginsSurface old new (Some contents) = IsRead bits_part (a_surface ∷ []) (a_number ∷ a_number ∷ a_face ∷ []) old new contents
+BeginsSurface old new None = Passes old new (a_surface ∷ []) (a_face ∷ []) [] []
 
 -- The value behind a key.
 abbrev pub value_part : Part (List ℕ) (List ℕ)

@@ -1,4 +1,4 @@
--- What a map text reads as.
+-- What a map text reads as: what `read_map` promises.
 use Rattle.std.specs.Prelude.{◌≡◌, ◌+◌, ℕ, IsTrue, List, map, length, sum_by, None, Some}
 use Rattle.map_lex.specs.TokenList.{token_list}
 use Rattle.map_text.specs.declared.document.MapDoc.{MapDoc}

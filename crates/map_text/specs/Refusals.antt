@@ -1,4 +1,4 @@
--- Where a text is refused: its first token that doesn't fit at its place.
+-- Where a text is refused: its first token that doesn't fit at its place. `first_refusal` is what `read_map` promises of refusals.
 use Rattle.std.specs.Prelude.{ℕ, ◌+◌, Bool, false, ◌==◌, ◌&&◌, not, if◌then◌else◌, List, [], ◌∷◌, ◌++◌, Option, None, Some}
 use Rattle.std.specs.List.{count_by}
 use Rattle.std.specs.Char.{is_ascii_alphabetic}
@@ -8,12 +8,13 @@ use Rattle.map_lex.specs.TokenList.{TokenValue, TokenList, token_list}
 use Rattle.fixed_num.specs.Count.{is_number_word}
 use Rattle.uv_lock.specs.declared.texture.Format.{Format}
 use Rattle.uv_lock.specs.declared.texture.Format.TheVariants.{Standard, Valve}
+use Rattle.map_lex.specs.OneToken.{ends_with_backslash}
 use Rattle.map_text.specs.declared.read_fault.What.{What}
 use Rattle.map_text.specs.declared.read_fault.What.TheVariants.{Entity, Item, Key, Value, Face, Point, Number, Material, Axis}
 use Rattle.map_text.specs.declared.read_fault.ReadFault.{ReadFault}
 use Rattle.map_text.specs.declared.read_fault.ReadFault.TheVariants.{Lex, Expected, MixedFormat, UnknownBlock, EndsEarly}
 use Rattle.map_text.specs.Grammar.{symbol_of}
-use Rattle.map_text.specs.Fits.{ends_with_backslash, is_material, is_format}
+use Rattle.map_text.specs.Fits.{is_material, is_format}
 
 -- A place in a file, by what is awaited there.
 pub data Awaited : Type 0 where
@@ -26,6 +27,7 @@ pub data Awaited : Type 0 where
   a_number : Awaited
   a_material : Awaited
   a_texture : Awaited
+  a_surface : Awaited
 
 -- What a token does at a place: it fits, and then these places follow, or the text is refused.
 pub data Step : Type 0 where
@@ -55,9 +57,10 @@ rest_of_point = a_number ∷ a_number ∷ a_number ∷ mark 41 Point ∷ []
 abbrev pub rest_of_axis : List Awaited
 rest_of_axis = a_number ∷ a_number ∷ a_number ∷ a_number ∷ mark 93 Axis ∷ []
 
--- The places of a face behind its first bracket.
+-- The places of a face behind its first bracket. The last one is behind the last scale: surface numbers may stand there, and else
+-- what may stand behind the face.
 abbrev pub rest_of_face : List Awaited
-rest_of_face = rest_of_point ++ (mark 40 Point ∷ rest_of_point ++ (mark 40 Point ∷ rest_of_point ++ (a_material ∷ a_texture ∷ [])))
+rest_of_face = rest_of_point ++ (mark 40 Point ∷ rest_of_point ++ (mark 40 Point ∷ rest_of_point ++ (a_material ∷ a_texture ∷ a_surface ∷ [])))
 
 -- The places of a texture behind its first token.
 abbrev pub rest_of_texture : Format → List Awaited
@@ -75,7 +78,7 @@ texture_step None t (Some format) = fits (rest_of_texture format)
 texture_step (Some first) t (Some format) = if is_format first format then fits (rest_of_texture format) else refused (MixedFormat t.line)
 
 abbrev pub face_step : TokenValue → Step
-face_step t = if is_bracket 40 t then fits (rest_of_face ++ (a_face ∷ []))
+face_step t = if is_bracket 40 t then fits rest_of_face
     else (if is_bracket 125 t then fits [] else refused (Expected Face t.line))
 
 -- The table of places: which tokens fit there, and how another one is refused.
@@ -92,6 +95,7 @@ step first (mark byte what) t = if is_bracket byte t then fits [] else refused (
 step first a_number t = if is_number t then fits [] else refused (Expected Number t.line)
 step first a_material t = if is_material (symbol_of t) then fits [] else refused (Expected Material t.line)
 step first a_texture t = texture_step first t (texture_format t)
+step first a_surface t = if is_number t then fits (a_number ∷ a_number ∷ a_face ∷ []) else face_step t
 
 -- The format of the first face, once a token at a place is read.
 abbrev pub settled : Option Format → Awaited → TokenValue → Option Format

@@ -2,13 +2,10 @@
 use Rattle.std.specs.Prelude.{ℕ, List, [], ◌∷◌, ◌++◌, map, codes}
 use Rattle.std.specs.List.{flat_map, enumerate_from}
 use Rattle.std.specs.Fmt.{decimal}
+use Rattle.map_lex.specs.LineTexts.{text_of}
 use Rattle.map_text.specs.declared.plain_map.PlainBrush.{PlainBrush}
 use Rattle.map_text.specs.declared.plain_map.PlainMap.{PlainMap}
 use Rattle.map_text.specs.FaceLine.{face_line}
-
--- The text of lines, each ended by a line feed.
-abbrev pub text_of : List (List ℕ) → List ℕ
-text_of lines = flat_map (λ line. line ++ 10 ∷ []) lines
 
 -- The lines of the brush with a number.
 unfoldable pub brush_lines : ℕ → PlainBrush → List (List ℕ)

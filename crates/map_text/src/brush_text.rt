@@ -66,7 +66,7 @@ fn begins_face(reader: &mut Reader<'_>, is_first: bool) -> Result<bool, ReadFaul
 }
 
 // A good brush takes no more memory than its faces.
-fn trimmed(brush: RawBrush) -> RawBrush
+fn shrunk(brush: RawBrush) -> RawBrush
     ensures { result ≡ brush }
 {
     match brush {
@@ -90,5 +90,5 @@ pub(crate) fn read_brush(alloc: Global, reader: &mut Reader<'_>) -> Result<RawBr
         brush = with_face(brush, read_face(alloc, reader)?)?;
         is_first = false;
     }
-    Ok(trimmed(brush))
+    Ok(shrunk(brush))
 }

@@ -30,7 +30,7 @@ pub enum RawBrush {
     Bad(Reason),
 }
 
-/// Why a brush of a text is no brush of a map. A text alone gives the first five.
+/// Why a brush of a text is no brush of a map. A text alone gives the first six.
 #[derive(Clone, Copy, Debug, PartialEq, Eq)]
 pub enum Reason {
     /// A coordinate isn't whole, rounded to six decimals.
@@ -39,6 +39,9 @@ pub enum Reason {
     Range,
     /// A number of a texture is 1,000,000 or more in size, rounded.
     Texture,
+    /// Contents or flags aren't whole, rounded to six decimals, or not in -2147483648..=4294967295, or the value of a
+    /// surface is 1,000,000 or more in size, rounded to six decimals.
+    Surface,
     /// The points of a face lie on a line.
     Flat,
     /// It has more than 256 faces.

@@ -7,7 +7,7 @@ ghost use Rattle.map_text.specs.Grammar.{symbol_of};
 ghost use Rattle.map_text.specs.Judged.{face_from};
 ghost use Rattle.map_text.specs.Parts.{face_part, material_part};
 ghost use Rattle.map_text.specs.Reading.{IsRead, IsRefused, IsStopped};
-ghost use Rattle.map_text.specs.Refusals.{a_material, rest_of_face};
+ghost use Rattle.map_text.specs.Refusals.{a_face, a_material, rest_of_face};
 
 use crate::document::Reason;
 use crate::judged::Judged;
@@ -70,7 +70,7 @@ fn read_material<'a>(reader: &mut Reader<'a>) -> Result<&'a [u8], ReadFault>
 
 /// Reads a face behind its first bracket, to its end also where it is bad.
 pub(crate) fn read_face(alloc: Global, reader: &mut Reader<'_>) -> Result<Judged<Face>, ReadFault>
-    ensures read { IfOk result (IsRead face_part rest_of_face [] reader.old reader.new) }
+    ensures read { IfOk result (IsRead face_part rest_of_face (a_face ∷ []) reader.old reader.new) }
     ensures fault { IfErr result (IsStopped reader.old rest_of_face) }
 {
     let points = read_points(reader)?;

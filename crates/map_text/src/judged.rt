@@ -16,6 +16,7 @@ pub(crate) fn first_reason(a: Reason, b: Reason) -> Reason
         (Reason::Point, _) | (_, Reason::Point) => Reason::Point,
         (Reason::Range, _) | (_, Reason::Range) => Reason::Range,
         (Reason::Texture, _) | (_, Reason::Texture) => Reason::Texture,
+        (Reason::Surface, _) | (_, Reason::Surface) => Reason::Surface,
         (Reason::Flat, _) | (_, Reason::Flat) => Reason::Flat,
         (Reason::Many, _) | (_, Reason::Many) => Reason::Many,
         (Reason::Volume, _) | (_, Reason::Volume) => Reason::Volume,

@@ -1,5 +1,9 @@
-//! The text of a Valve map of boxes: its plain form, read exactly, and the text that such a map is saved as.
-//! A text is read just where it is in the plain form, and what is saved is read again as the same map.
+//! The reader of map texts: what a text of Quake's maps means, in the Standard and the Valve 220 format, as a document of
+//! entities, properties and brushes.
+//!
+//! `read_map` reads a text by its grammar. It promises that the document is what the text means, and that a text is refused
+//! just where its first token that doesn't fit is at fault, with that token's line. A brush that can't be one of a map is
+//! kept as bad, with the first reason. `read_plain` and `write_plain` know the plain form of a map of boxes alone.
 #![tactic(auto)]
 
 mod boxes;
@@ -24,6 +28,7 @@ mod point_text;
 mod read_fault;
 mod reader;
 mod reading_law;
+mod surface_text;
 mod texture_text;
 mod writer;
 

@@ -1,15 +1,15 @@
 //! A reader in the middle of a map text.
 
-ghost use Rattle.std.specs.Prelude.{◌≡◌, ◌^◌, ◌<◌, ◌≤◌, ◌-◌, ◌+◌, ◌==◌, List, [], ◌∷◌, false, length, IsTrue, IfOk, IfErr, OnOk, OnErr};
+ghost use Rattle.std.specs.Prelude.{◌≡◌, ◌^◌, ◌<◌, ◌≤◌, ◌-◌, ◌+◌, ◌==◌, List, [], ◌∷◌, false, length, slice_get, option_map, IsTrue, IfOk, IfErr, OnOk, OnErr};
 ghost use Rattle.std.specs.List.{count_by};
 ghost use Rattle.map_lex.specs.TokenList.{token_list, value_of};
+ghost use Rattle.map_lex.specs.OneToken.{ends_with_backslash};
 ghost use Rattle.map_text.specs.Grammar.{bracket};
-ghost use Rattle.map_text.specs.Fits.{ends_with_backslash};
 ghost use Rattle.map_text.specs.Refusals.{Awaited, is_bracket, last_line, mark};
 ghost use Rattle.map_text.specs.Reading.{IsFound, IsNext, IsRefused, Passes, allows, is_inner};
 
 use crate::read_fault::{ReadFault, What};
-use map_lex::{Token, Tokens};
+use map_lex::{LexFault, Token, Tokens};
 use std::marker::Model;
 use uv_lock::Format;
 
@@ -17,18 +17,21 @@ use uv_lock::Format;
 #[derive(Drop)]
 pub(crate) struct Reader<'a> {
     text: &'a [u8],
-    tokens: Tokens<'a>,
+    // The next token, or the end of the text or its fault in its place.
+    front: Result<Option<Token<'a>>, LexFault>,
+    // The tokens behind that one.
+    behind: Tokens<'a>,
     format: Option<Format>,
 }
 
 impl<'a> Model for Reader<'a> {
     ghost use Rattle.std.specs.Prelude.{◌^◌, ◌<◌, ◌-◌, length};
     ghost use Rattle.map_text.specs.Refusals.{last_line};
-    ghost use Rattle.map_text.specs.Reading.{IsRefused, ReaderState};
+    ghost use Rattle.map_text.specs.Reading.{IsRefused, ReaderState, with_front};
 
     ghost Value = { ReaderState };
 
-    ghost view = { λ r. record { last = last_line r.text.now; first = r.format; left = r.tokens } };
+    ghost view = { λ r. record { last = last_line r.text.now; first = r.format; left = with_front r.front r.behind } };
 
     ghost invariant = { λ r. length r.text.now < 2 ^ 32 - 1 };
 }
@@ -48,9 +51,11 @@ impl<'a> Reader<'a> {
         ensures state { result ≡ record { last = last_line text.now; first = None; left = token_list text.now } }
         ensures count { length result.left.tokens ≤ length text.now }
     {
+        let mut behind = Tokens::new(text);
         Reader {
             text,
-            tokens: Tokens::new(text),
+            front: behind.next(),
+            behind,
             format: None,
         }
     }
@@ -62,12 +67,26 @@ impl<'a> Reader<'a> {
         self.format
     }
 
+    /// The next token, if there is one. It is left.
+    pub(crate) fn peek(&self) -> Option<Token<'a>>
+        ensures { option_map value_of result ≡ slice_get self.now.left.tokens 0 }
+    {
+        match self.front {
+            Ok(token) => token,
+            Err(_) => None,
+        }
+    }
+
     /// The next token, where one may be missing.
     pub(crate) fn next_token(&mut self) -> Result<Option<Token<'a>>, ReadFault>
         ensures token { IfOk result (λ found. IsFound self.old found self.new) }
         ensures fault { IfErr result (λ why. (places : List Awaited) (place : Awaited) → IsRefused self.old (place ∷ places) why) }
     {
-        Ok(self.tokens.next()?)
+        let token = self.front?;
+        if token.is_some() {
+            self.front = self.behind.next();
+        }
+        Ok(token)
     }
 
     /// The next token, inside an entity.

@@ -2,8 +2,9 @@
 
 ghost use Rattle.std.specs.Prelude.{◌≡◌, ◌++◌, [], ◌∷◌, IfOk, OnOk, length};
 ghost use Rattle.std.specs.List.{flat_map};
+ghost use Rattle.map_lex.specs.LineTexts.{text_of};
 ghost use Rattle.map_text.specs.FaceLine.{coordinates, face_line, number_count, words_at};
-ghost use Rattle.map_text.specs.SavedText.{brush_lines, saved_text, text_of};
+ghost use Rattle.map_text.specs.SavedText.{brush_lines, saved_text};
 
 use crate::place::{POINTS, Place, TEXTURE};
 use crate::plain_map::{PlainBrush, PlainFace, PlainMap};

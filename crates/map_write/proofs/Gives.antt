@@ -9,8 +9,9 @@ use Rattle.map_lex.specs.TokenList.{TokenValue, TokenList, put_first, unless_str
 use Rattle.map_lex.proofs.Fronts.{cond_false}
 use Rattle.map_lex.proofs.Cuts.{pieces_of-cons}
 use Rattle.map_lex.proofs.Reading.{left_end}
+use Rattle.map_lex.specs.OneToken.{ends_with_backslash}
 use Rattle.map_text.specs.Grammar.{Symbol, symbol_of, word, quote}
-use Rattle.map_text.specs.Fits.{ends_with_backslash, is_material}
+use Rattle.map_text.specs.Fits.{is_material}
 use Rattle.map_write.specs.Written.{written}
 use Rattle.map_write.proofs.Tests.{no_more_than}
 use Rattle.map_write.proofs.Tokens.{IsWord, IsQuoted, IsToken, word_goes_on, word_ends, none_closes, one_line, closed_by}

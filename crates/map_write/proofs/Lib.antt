@@ -11,3 +11,4 @@ pub mod DocumentBack
 pub mod ReadTokens
 pub mod ReadFaces
 pub mod ReadDocuments
+pub mod OldTexts

@@ -5,11 +5,11 @@ use Rattle.std.specs.Fmt.{decimal}
 use Rattle.std.proofs.lemmas.Bool.{and_parts}
 use Rattle.std.proofs.lemmas.List.Concat.{flat_map-append}
 use Rattle.map_lex.specs.Bytes.{is_blank, is_stray}
+use Rattle.map_lex.specs.OneToken.{ends_with_backslash, is_value_text, is_key_text}
+use Rattle.map_lex.specs.LineTexts.{text_of}
 use Rattle.map_text.specs.Grammar.{Symbol, word, quote, bracket}
-use Rattle.map_text.specs.Fits.{is_material, ends_with_backslash}
-use Rattle.map_text.specs.SavedText.{text_of}
+use Rattle.map_text.specs.Fits.{is_material}
 use Rattle.map_write.specs.Written.{written, line_of, property_line}
-use Rattle.map_write.specs.Savable.{is_quotable, is_savable_key}
 use Rattle.map_write.proofs.Tests.{no_more_than, none_pass, all_weaker, all_append, front_stops}
 use Rattle.map_write.proofs.Tokens.{IsWord, IsToken, closed_by, closed_at_end, quoted_from_test}
 use Rattle.map_write.proofs.Gives.{Gives, gives_blank, gives_comment, gives_word, gives_quoted, gives_symbol}
@@ -49,10 +49,10 @@ property_text : (key value rest : List ℕ) → ((34 ∷ (key ++ 34 ∷ [])) ++ 
 property_text key value rest = simp append_assoc
 
 -- a property on its line: only its value may end with a backslash
-pub gives_property : (key value rest : List ℕ) (symbols : List Symbol) → is_savable_key key ≡ true → is_quotable value ≡ true → Gives rest symbols →
+pub gives_property : (key value rest : List ℕ) (symbols : List Symbol) → is_key_text key ≡ true → is_value_text value ≡ true → Gives rest symbols →
     Gives (property_line (key, value) ++ 10 ∷ rest) (quote key ∷ quote value ∷ symbols)
 gives_property key value rest symbols savable quotable later =
-    let parts = and_parts (is_quotable key) (not (ends_with_backslash key)) savable in
+    let parts = and_parts (is_value_text key) (not (ends_with_backslash key)) savable in
     subst (λ text. Gives text (quote key ∷ quote value ∷ symbols)) (sym (property_text key value rest))
     (gives_quoted key (32 ∷ 34 ∷ (value ++ 34 ∷ 10 ∷ rest)) (quote value ∷ symbols) (quoted_from_test key parts.0) (closed_by key (32 ∷ 34 ∷ (value ++ 34 ∷ 10 ∷ rest)) (no_more_than (ends_with_backslash key) parts.1))
     (gives_blank 32 (34 ∷ (value ++ 34 ∷ 10 ∷ rest)) (quote value ∷ symbols) refl

@@ -1,13 +1,15 @@
 -- The words of numbers: that they are words, and what they count.
-use Rattle.std.proofs.Common.{◌≡◌, ℕ, zero, suc, ◌+◌, ◌*◌, ◌/◌, ◌%◌, ◌^◌, ◌<◌, ◌≤◌, ◌⊎◌, inl, inr, Bool, true, false, not, ◌&&◌, ◌||◌, ◌==◌, eqb, leb, ltb, cond, List, [], ◌∷◌, ◌++◌, length, refl, ap, sym, subst, ◌∙◌, arith, append-nil, length-append, ℤ, pos, negsuc, unsigned_abs, nat_abs}
+use Rattle.std.proofs.Common.{◌≡◌, ℕ, zero, suc, ◌+◌, ◌*◌, ◌/◌, ◌%◌, ◌^◌, ◌<◌, ◌≤◌, ◌⊎◌, inl, inr, Bool, true, false, not, ◌&&◌, ◌||◌, ◌==◌, eqb, leb, ltb, cond, List, [], ◌∷◌, ◌++◌, length, refl, ap, sym, subst, ◌∙◌, arith, append-nil, length-append, ℤ, pos, neg_ℤ, negsuc, unsigned_abs, nat_abs}
 use Rattle.std.specs.List.{list_all}
 use Rattle.std.specs.Fmt.{decimal, signed_decimal, digit_glyph, digits_onto, digits}
-use Rattle.std.specs.Str.Parse.{AllDigits}
+use Rattle.std.specs.Str.Parse.{AllDigits, digits_value, IsNumeral}
 use Rattle.std.specs.Int.{IsInRange}
 use Rattle.std.specs.Ordering.{int_eq}
 use Rattle.std.specs.Prelude.{int_div, int_rem}
 use Rattle.std.proofs.lemmas.Bool.{and_parts, and_from, and_left, ltb-true}
 use Rattle.std.proofs.lemmas.Bool.Decides.{nat_tests}
+use Rattle.std.proofs.lemmas.Fmt.{decimal_is_IsNumeral, length-decimal-le}
+use Rattle.std.proofs.lemmas.Nat.{pow-add}
 use Rattle.std.proofs.lemmas.Str.Parse.{digit_from_value}
 use Rattle.fixed_num.specs.NumberWord.{Parts, HasParts, IsNumberWord, IsSign, IsPointed, IsPower}
 use Rattle.fixed_num.specs.Count.{is_number_word, count_of}
@@ -19,7 +21,7 @@ use Rattle.fixed_num.proofs.Counts.{RoundsTo-from_exact}
 use Rattle.map_lex.specs.Bytes.{is_blank, is_stray, begins_comment}
 use Rattle.map_lex.specs.Cut.{begins_word}
 use Rattle.map_text.specs.Meaning.{is_whole, whole_of, is_large}
-use Rattle.map_write.specs.Savable.{is_small}
+use Rattle.map_text.specs.Spelled.{is_small}
 use Rattle.map_write.proofs.Tests.{all_append, all_weaker, none_pass}
 use Rattle.map_write.proofs.Tokens.{IsWord}
 
@@ -130,28 +132,28 @@ decimal_bytes n = onto_bytes 64 n [] refl
 
 -- ---- the shortest decimals of small counts
 
--- a word that is a number word with this count, and stands as a word
-pub record Spells (w : List ℕ) (count : ℤ) : Type 0 where
+-- a word that is a number word with this count of so many decimals, and stands as a word
+pub record Spells (decimals : ℕ) (w : List ℕ) (count : ℤ) : Type 0 where
   pub number : is_number_word w ≡ true
-  pub counted : count_of 6 w ≡ count
+  pub counted : count_of decimals w ≡ count
   pub is_word : IsWord w
 
-spells_exactly : (w : List ℕ) (count : ℤ) → IsExactly 6 w count → Spells w count
-spells_exactly w count exact =
+spells_exactly : (decimals : ℕ) (w : List ℕ) (count : ℤ) → IsExactly decimals w count → Spells decimals w count
+spells_exactly decimals w count exact =
     let is : IsNumberWord w = (exact.parts, exact.has_parts) in record {
       number = (words_have_counts.words w).1 is;
-      counted = sym (words_have_counts.only 6 w count (RoundsTo-from_exact 6 w count exact));
+      counted = sym (words_have_counts.only decimals w count (RoundsTo-from_exact decimals w count exact));
       is_word = number_is_word w is;
     }
 
-pub shortest_spells : (count : ℤ) → is_small 6 count ≡ true → Spells (shortest_decimal 6 count) count
-shortest_spells count small =
-    let below : unsigned_abs count < 10 ^ (6 + 6) = ltb-true (unsigned_abs count) (10 ^ 12) small in
-    spells_exactly (shortest_decimal 6 count) count (exact-shortest_decimal 6 count (omega arith) below)
+pub shortest_spells : (decimals : ℕ) → decimals ≤ 12 → (count : ℤ) → is_small decimals count ≡ true → Spells decimals (shortest_decimal decimals count) count
+shortest_spells decimals few count small =
+    let below : unsigned_abs count < 1000000 * 10 ^ decimals = ltb-true (unsigned_abs count) (1000000 * 10 ^ decimals) small in
+    spells_exactly decimals (shortest_decimal decimals count) count (exact-shortest_decimal decimals count few (omega (arith, below, pow-add 10 6 decimals)))
 
-pub small_not_large : (w : List ℕ) (count : ℤ) → is_small 6 count ≡ true → Spells w count → is_large 6 w ≡ false
-small_not_large w count small spells =
-    ap (λ z. leb (1000000 * 10 ^ 6) (unsigned_abs z)) spells.counted ∙ above (unsigned_abs count) (1000000 * 10 ^ 6) small
+pub small_not_large : (decimals : ℕ) (w : List ℕ) (count : ℤ) → is_small decimals count ≡ true → Spells decimals w count → is_large decimals w ≡ false
+small_not_large decimals w count small spells =
+    ap (λ z. leb (1000000 * 10 ^ decimals) (unsigned_abs z)) spells.counted ∙ above (unsigned_abs count) (1000000 * 10 ^ decimals) small
   where
     above : (n limit : ℕ) → ltb n limit ≡ true → leb limit n ≡ false
     above n limit e = grind (arith, nat_tests)
@@ -163,23 +165,67 @@ abbrev pub millionths : ℤ → ℤ
 millionths (pos n) = pos (n * 1000000)
 millionths (negsuc n) = negsuc (n * 1000000 + 999999)
 
-whole-shortest : (z : ℤ) → shortest_decimal 6 (millionths z) ≡ signed_decimal z
-whole-shortest (pos n) =
-    let whole : n * 1000000 / 1000000 ≡ n = omega arith in
-    let rest : n * 1000000 % 1000000 ≡ 0 = omega arith in
-    rw (whole, rest) (append-nil (decimal n))
-whole-shortest (negsuc n) =
-    let whole : suc (n * 1000000 + 999999) / 1000000 ≡ suc n = omega arith in
-    let rest : suc (n * 1000000 + 999999) % 1000000 ≡ 0 = omega arith in
-    rw (whole, rest) (ap (λ w. 45 ∷ w) (append-nil (decimal (suc n))))
+-- the digits of a number of 64 bits
+record IsWritten (n : ℕ) : Type 0 where
+  all_digits : AllDigits 10 (decimal n)
+  some : 1 ≤ length (decimal n)
+  value : digits_value 10 (decimal n) ≡ n
+  few : length (decimal n) ≤ 20
 
-whole_small : (z : ℤ) → leb (nat_abs z) 4352 ≡ true → is_small 6 (millionths z) ≡ true
-whole_small (pos n) e = grind (arith, nat_tests)
-whole_small (negsuc n) e = grind (arith, nat_tests)
+written_digits : (n : ℕ) → n < 2 ^ 64 → IsWritten n
+written_digits n fits =
+    let numeral : IsNumeral 10 (decimal n) × (digits_value 10 (decimal n) ≡ n) = decimal_is_IsNumeral n fits in
+    record { all_digits = numeral.0.1; some = numeral.0.0; value = numeral.1; few = length-decimal-le 20 n (omega arith) (omega arith) fits }
+
+whole_parts : Bool → ℕ → Parts
+whole_parts negative size = record { negative = negative; whole = decimal size; fraction = []; lowers = false; exponent = 0 }
+
+has_whole_parts : (w sign : List ℕ) (negative : Bool) (size : ℕ) → w ≡ sign ++ (decimal size ++ []) → IsSign sign negative → length sign ≤ 1 → IsWritten size → HasParts w (whole_parts negative size)
+unfolding whole_parts
+has_whole_parts w sign negative size joined signed short written =
+    let few : length (decimal size) ≤ 20 = written.few in
+    let some : 1 ≤ length (decimal size) = written.some in
+    record {
+      sign = sign;
+      pointed = [];
+      power = [];
+      joined = joined;
+      short = omega (arith, ap length joined, length-append sign (decimal size ++ []), length-append (decimal size) [], short, few);
+      signed = signed;
+      whole_digits = written.all_digits;
+      fraction_digits = inl (refl, refl);
+      some_digit = omega (arith, some);
+      scaled = inl (refl, refl, refl);
+    }
+
+whole_exact : (n value : ℕ) → value ≡ n → value * 10 ^ 0 * 10 ^ 6 ≡ n * 1000000 * 10 ^ 0
+whole_exact n value e = omega (arith, e)
+
+whole_is_exact : (z : ℤ) → unsigned_abs z < 2 ^ 64 → IsExactly 6 (signed_decimal z) (millionths z)
+unfolding whole_parts
+whole_is_exact (pos n) fits =
+    let written = written_digits n fits in
+    record {
+      parts = whole_parts false n;
+      has_parts = has_whole_parts (decimal n) [] false n (sym (append-nil (decimal n))) (inl refl) (omega arith) written;
+      size = n * 1000000;
+      exact = whole_exact n (digits_value 10 (decimal n ++ [])) (ap (digits_value 10) (append-nil (decimal n)) ∙ written.value);
+      is_signed = refl;
+    }
+whole_is_exact (negsuc n) fits =
+    let written = written_digits (suc n) fits in
+    let size : suc (n * 1000000 + 999999) ≡ suc n * 1000000 = omega arith in
+    record {
+      parts = whole_parts true (suc n);
+      has_parts = has_whole_parts (45 ∷ decimal (suc n)) (45 ∷ []) true (suc n) (ap (λ w. 45 ∷ w) (sym (append-nil (decimal (suc n))))) refl (omega arith) written;
+      size = suc n * 1000000;
+      exact = whole_exact (suc n) (digits_value 10 (decimal (suc n) ++ [])) (ap (digits_value 10) (append-nil (decimal (suc n))) ∙ written.value);
+      is_signed = ap (λ m. neg_ℤ (pos m)) size;
+    }
 
 -- a whole number that is spelled: it is whole, and it is this one
 pub record SpellsWhole (w : List ℕ) (z : ℤ) : Type 0 where
-  pub spells : Spells w (millionths z)
+  pub spells : Spells 6 w (millionths z)
   pub whole : is_whole w ≡ true
   pub value : whole_of w ≡ z
 
@@ -191,11 +237,18 @@ quotient : (z : ℤ) → int_div (millionths z) (pos 1000000) ≡ z
 quotient (pos n) = let whole : n * 1000000 / 1000000 ≡ n = omega arith in rw whole refl
 quotient (negsuc n) = let whole : suc (n * 1000000 + 999999) / 1000000 ≡ suc n = omega arith in rw whole refl
 
-pub whole_spells : (z : ℤ) → leb (nat_abs z) 4352 ≡ true → SpellsWhole (signed_decimal z) z
-whole_spells z e =
-    let spells : Spells (signed_decimal z) (millionths z) = subst (λ w. Spells w (millionths z)) (whole-shortest z) (shortest_spells (millionths z) (whole_small z e)) in
+pub whole_spells : (z : ℤ) → unsigned_abs z < 2 ^ 64 → SpellsWhole (signed_decimal z) z
+whole_spells z fits =
+    let spells : Spells 6 (signed_decimal z) (millionths z) = spells_exactly 6 (signed_decimal z) (millionths z) (whole_is_exact z fits) in
     record {
       spells = spells;
       whole = ap (λ c. int_eq (int_rem c (pos 1000000)) (pos 0)) spells.counted ∙ no_rest z;
       value = ap (λ c. int_div c (pos 1000000)) spells.counted ∙ quotient z;
     }
+
+-- a coordinate
+pub coordinate_spells : (z : ℤ) → leb (nat_abs z) 4352 ≡ true → SpellsWhole (signed_decimal z) z
+coordinate_spells z e = whole_spells z (fits (nat_abs z) e)
+  where
+    fits : (n : ℕ) → leb n 4352 ≡ true → n < 2 ^ 64
+    fits n e = grind (arith, nat_tests)

@@ -1,5 +1,5 @@
 -- A document that was read is spelled, and without a bad brush it can be saved.
-use Rattle.std.proofs.Common.{◌≡◌, ℕ, suc, Bool, true, false, not, ◌&&◌, ◌||◌, ltb, cond, List, [], ◌∷◌, ◌++◌, map, length, refl, ap, sym, subst, ◌∙◌, arith, slice_get}
+use Rattle.std.proofs.Common.{◌≡◌, ℕ, suc, Bool, true, false, not, ◌&&◌, ◌||◌, ltb, cond, Option, List, [], ◌∷◌, ◌++◌, map, length, refl, ap, sym, subst, ◌∙◌, arith, slice_get}
 use Rattle.std.specs.Option.{option_map_or}
 use Rattle.std.specs.List.{list_all, flat_map}
 use Rattle.std.specs.Str.{bytes_eq}
@@ -8,13 +8,14 @@ use Rattle.std.proofs.lemmas.Slice.Eq.{bytes_eq-Decides}
 use Rattle.uv_lock.specs.declared.face.Face.{Face}
 use Rattle.uv_lock.specs.declared.texture.Format.{Format}
 use Rattle.uv_lock.specs.declared.texture.Format.TheVariants.{Standard as StandardFormat, Valve as ValveFormat}
+use Rattle.map_lex.specs.OneToken.{ends_with_backslash, is_value_text, is_key_text}
 use Rattle.map_text.specs.declared.document.MapDoc.{MapDoc}
 use Rattle.map_text.specs.declared.document.RawEntity.{RawEntity}
-use Rattle.map_text.specs.Grammar.{bracket, TextureText, standard, valve, FaceText, face_symbols, Item, property, brush, item_symbols, entity_symbols, file_symbols}
-use Rattle.map_text.specs.Fits.{ends_with_backslash, item_fits, file_fits, format_of, formats, is_format, has_one_format}
+use Rattle.map_text.specs.Grammar.{bracket, TextureText, standard, valve, SurfaceText, FaceText, face_symbols, Item, property, brush, item_symbols, entity_symbols, file_symbols}
+use Rattle.map_text.specs.Fits.{item_fits, file_fits, format_of, formats, is_format, has_one_format}
 use Rattle.map_text.specs.Meaning.{tex_of, face_of_text, raw_brush_of, brushes_of_item, put_property, put_items, raw_entity_of, format_by_version, document_of}
 use Rattle.map_text.specs.Reads.{Reads}
-use Rattle.map_write.specs.Savable.{is_quotable, is_savable_key, is_good, is_spelled_brush, keys_are_distinct, is_spelled_entity, tex_format, face_formats, is_spelled, all_good, tells_its_format, is_savable}
+use Rattle.map_text.specs.Spelled.{is_good, is_spelled_brush, keys_are_distinct, is_spelled_entity, tex_format, face_formats, is_spelled, all_good, tells_its_format, is_savable}
 use Rattle.map_write.proofs.Tests.{all_append, all_parts}
 use Rattle.map_write.proofs.Tokens.{AreTokens, quoted_passes}
 use Rattle.map_write.proofs.FileTokens.{is_savable_property}
@@ -57,8 +58,8 @@ record AreProperties (ps : List (List ℕ × List ℕ)) : Type 0 where
 
 property_savable : (key value : List ℕ) → AreTokens (item_symbols (property key value)) → item_fits (property key value) ≡ true → is_savable_property (key, value) ≡ true
 property_savable key value are unclosed =
-    and_from (is_savable_key key) (is_quotable value)
-    (and_from (is_quotable key) (not (ends_with_backslash key)) (quoted_passes key (are.0.between_quotes refl)) unclosed)
+    and_from (is_key_text key) (is_value_text value)
+    (and_from (is_value_text key) (not (ends_with_backslash key)) (quoted_passes key (are.0.between_quotes refl)) unclosed)
     (quoted_passes value (are.1.0.between_quotes refl))
 
 properties_read : (ps : List (List ℕ × List ℕ)) (items : List Item) → AreTokens (flat_map item_symbols items) → list_all item_fits items ≡ true → AreProperties ps → AreProperties (put_items ps items)
@@ -105,13 +106,13 @@ entities_read (items ∷ file) are fit =
 
 -- ---- formats
 
-same_format : (t : TextureText) → tex_format (tex_of t) ≡ format_of t
-same_format (standard u_offset v_offset rotation u_scale v_scale) = refl
-same_format (valve u v rotation u_scale v_scale) = refl
+same_format : (t : TextureText) (s : Option SurfaceText) → tex_format (tex_of t s) ≡ format_of t
+same_format (standard u_offset v_offset rotation u_scale v_scale) s = refl
+same_format (valve u v rotation u_scale v_scale) s = refl
 
 faces_formats : (fs : List FaceText) → map (λ f. tex_format f.tex) (map face_of_text fs) ≡ map (λ f. format_of f.texture) fs
 faces_formats [] = refl
-faces_formats (f ∷ fs) = λ i. same_format f.texture i ∷ faces_formats fs i
+faces_formats (f ∷ fs) = λ i. same_format f.texture f.surface i ∷ faces_formats fs i
 
 -- where the faces of a text have one format, those of its brushes have it; a bad brush has none
 brush_in_format : (format : Format) (faces : List FaceText) → list_all (is_format format) (item_formats (brush faces)) ≡ true →

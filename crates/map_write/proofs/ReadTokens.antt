@@ -9,8 +9,8 @@ use Rattle.map_lex.specs.TokenList.{TokenList, put_first, unless_stray, stopped,
 use Rattle.map_lex.specs.Pieces.{pieces_of}
 use Rattle.map_lex.proofs.Fronts.{before_first-cons, front-none}
 use Rattle.map_lex.proofs.Cuts.{pieces_of-cut}
+use Rattle.map_lex.specs.OneToken.{quotes_are_escaped}
 use Rattle.map_text.specs.Grammar.{Symbol, symbol_of, word, quote}
-use Rattle.map_write.specs.Savable.{quotes_are_escaped}
 use Rattle.map_write.proofs.Tests.{not_not, last_of, last-push}
 use Rattle.map_write.proofs.Gives.{unless}
 use Rattle.map_write.proofs.Tokens.{IsToken, AreTokens, none_of, ends_back}

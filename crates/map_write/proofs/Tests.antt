@@ -1,5 +1,5 @@
 -- Tests of the elements of lists.
-use Rattle.std.proofs.Common.{◌≡◌, ℕ, suc, ◌-◌, Bool, true, false, not, ◌&&◌, List, [], ◌∷◌, ◌++◌, length, refl, ap, sym, ◌∙◌, arith, nat_eq, append-nil}
+use Rattle.std.proofs.Common.{◌≡◌, ℕ, suc, ◌-◌, Bool, true, false, not, ◌&&◌, T, int_le, ℤ, ◌≤ℤ◌, List, [], ◌∷◌, ◌++◌, length, refl, ap, sym, ◌∙◌, arith, nat_eq, append-nil}
 use Rattle.std.specs.List.{list_all, list_any, before_first, ends_with}
 use Rattle.std.proofs.lemmas.Bool.{and_parts, and_from, and_left, and_right, or_parts, or_from}
 use Rattle.std.proofs.lemmas.List.Folds.{list_all-append}
@@ -8,6 +8,13 @@ use Rattle.map_lex.proofs.Fronts.{before_first-cons, before_first-append, cond_t
 pub no_more_than : (b : Bool) → not b ≡ true → b ≡ false
 no_more_than true e = cc
 no_more_than false e = refl
+
+pub int_le-true : (a b : ℤ) → int_le a b ≡ true → a ≤ℤ b
+int_le-true a b e = record { le = holds (int_le a b) e }
+  where
+    holds : (t : Bool) → t ≡ true → T t
+    holds true h = tt
+    holds false h = cc
 
 pub not_not : (b : Bool) → not b ≡ false → b ≡ true
 not_not true e = refl

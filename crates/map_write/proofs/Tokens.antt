@@ -5,9 +5,8 @@ use Rattle.std.proofs.lemmas.Bool.{and_parts, and_from, and_right, or_from, or_l
 use Rattle.map_lex.specs.Bytes.{is_blank, is_stray, rest_of_line, up_to_blank, begins_comment, closes}
 use Rattle.map_lex.specs.Cut.{begins_word, NoneCloses}
 use Rattle.map_lex.proofs.Fronts.{before_first-cons, before_first-append}
+use Rattle.map_lex.specs.OneToken.{ends_with_backslash, quotes_are_escaped, is_value_text}
 use Rattle.map_text.specs.Grammar.{Symbol}
-use Rattle.map_text.specs.Fits.{ends_with_backslash}
-use Rattle.map_write.specs.Savable.{quotes_are_escaped, is_quotable}
 use Rattle.map_write.proofs.Tests.{none_pass, all_fail, all_weaker, all_both, not_all, any_behind, whole_front, front_stops, last_of, ends-last}
 
 -- a text that is one word
@@ -96,7 +95,7 @@ closed_by t after e = or_left (not (ends_with nat_eq t (92 ∷ []))) (list_all i
 pub closed_at_end : (t rest : List ℕ) → closes t (10 ∷ rest) ≡ true
 closed_at_end t rest = or_right (not (ends_with nat_eq t (92 ∷ []))) (list_all is_blank (rest_of_line (10 ∷ rest))) refl
 
-pub quoted_from_test : (t : List ℕ) → is_quotable t ≡ true → IsQuoted t
+pub quoted_from_test : (t : List ℕ) → is_value_text t ≡ true → IsQuoted t
 quoted_from_test t e =
     let parts = and_parts (quotes_are_escaped 34 t) (list_all (λ b. not (b == 10) && not (is_stray b)) t) e in
     record {
@@ -105,7 +104,7 @@ quoted_from_test t e =
       clean = none_pass is_stray t (all_weaker (λ b. not (b == 10) && not (is_stray b)) (λ b. not (is_stray b)) (λ b h. (and_parts (not (b == 10)) (not (is_stray b)) h).1) t parts.1);
     }
 
-pub quoted_passes : (t : List ℕ) → IsQuoted t → is_quotable t ≡ true
+pub quoted_passes : (t : List ℕ) → IsQuoted t → is_value_text t ≡ true
 quoted_passes t quoted =
     and_from (quotes_are_escaped 34 t) (list_all (λ b. not (b == 10) && not (is_stray b)) t) quoted.escaped
     (all_both (λ b. not (b == 10)) (λ b. not (is_stray b)) t (all_fail (λ b. b == 10) t quoted.one_line) (all_fail is_stray t quoted.clean))

@@ -1,2 +1,3 @@
 pub mod Written
-pub mod Savable
+pub mod SavedAgain
+pub mod OldNumbers

@@ -1,9 +1,9 @@
 //! Writes brushes: their faces in braces.
 
 ghost use Rattle.std.specs.Prelude.{◌≡◌, ◌++◌, OnOk, map};
-ghost use Rattle.map_text.specs.Grammar.{face_symbols};
-ghost use Rattle.map_text.specs.SavedText.{text_of};
-ghost use Rattle.map_write.specs.Written.{brush_lines, face_text, faces_of_brush, line_of};
+ghost use Rattle.map_lex.specs.LineTexts.{text_of};
+ghost use Rattle.map_text.specs.Spelled.{faces_of_brush};
+ghost use Rattle.map_write.specs.Written.{brush_lines, face_line, kept};
 
 use crate::face_writer::write_face;
 use crate::numbers::write_heading;
@@ -22,8 +22,7 @@ fn faces_of(brush: &RawBrush) -> &[Face]
 }
 
 fn write_faces(text: &mut Vec<u8>, faces: &[Face]) -> Result<(), AllocError>
-    ensures { OnOk result (text.new.items
-        ≡ text.old.items ++ text_of (map (λ f. line_of (face_symbols (face_text f))) faces.now)) }
+    ensures { OnOk result (text.new.items ≡ text.old.items ++ text_of (map (face_line kept) faces.now)) }
 {
     for face in faces {
         write_face(text, face)?;
@@ -37,7 +36,7 @@ pub(crate) fn write_brush(
     number: usize,
     brush: &RawBrush,
 ) -> Result<(), AllocError>
-    ensures { OnOk result (text.new.items ≡ text.old.items ++ text_of (brush_lines number brush.now)) }
+    ensures { OnOk result (text.new.items ≡ text.old.items ++ text_of (brush_lines kept number brush.now)) }
 {
     write_heading(text, b"// brush ", number)?;
     write_faces(text, faces_of(brush))?;

@@ -2,8 +2,8 @@
 
 ghost use Rattle.std.specs.Prelude.{◌≡◌, ◌++◌, [], ◌∷◌, OnOk, map};
 ghost use Rattle.std.specs.List.{flat_map, enumerate_from};
-ghost use Rattle.map_text.specs.SavedText.{text_of};
-ghost use Rattle.map_write.specs.Written.{brush_lines, entity_lines, property_line};
+ghost use Rattle.map_lex.specs.LineTexts.{text_of};
+ghost use Rattle.map_write.specs.Written.{brush_lines, entity_lines, kept, property_line};
 
 use crate::brush_writer::write_brush;
 use crate::numbers::write_heading;
@@ -33,7 +33,7 @@ fn write_properties(text: &mut Vec<u8>, props: &[(Text, Text)]) -> Result<(), Al
 
 fn write_brushes(text: &mut Vec<u8>, brushes: &[RawBrush]) -> Result<(), AllocError>
     ensures { OnOk result (text.new.items
-        ≡ text.old.items ++ text_of (flat_map (λ (k, b). brush_lines k b) (enumerate_from 0 brushes.now))) }
+        ≡ text.old.items ++ text_of (flat_map (λ (k, b). brush_lines kept k b) (enumerate_from 0 brushes.now))) }
 {
     for (number, brush) in brushes.iter().enumerate() {
         write_brush(text, number, brush)?;
@@ -47,7 +47,7 @@ pub(crate) fn write_entity(
     number: usize,
     entity: &RawEntity,
 ) -> Result<(), AllocError>
-    ensures { OnOk result (text.new.items ≡ text.old.items ++ text_of (entity_lines number entity.now)) }
+    ensures { OnOk result (text.new.items ≡ text.old.items ++ text_of (entity_lines kept number entity.now)) }
 {
     write_heading(text, b"// entity ", number)?;
     write_properties(text, entity.props.list())?;

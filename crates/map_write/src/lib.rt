@@ -11,7 +11,8 @@ mod laws;
 mod map_writer;
 mod material;
 mod numbers;
+mod surface_writer;
 mod texture_writer;
 
-pub use laws::saved_is_read_again_law;
+pub use laws::{old_files_law, saved_is_read_again_law};
 pub use map_writer::{all_good, write_map};

@@ -3,8 +3,8 @@
 ghost use Rattle.std.specs.Prelude.{◌≡◌, IfOk, IsTrue};
 ghost use Rattle.std.specs.List.{list_all};
 ghost use Rattle.map_text.specs.Reads.{Reads};
+ghost use Rattle.map_text.specs.Spelled.{all_good, is_good, is_savable};
 ghost use Rattle.map_write.specs.Written.{written_text};
-ghost use Rattle.map_write.specs.Savable.{all_good, is_good, is_savable};
 
 use crate::entity_writer::write_entity;
 use map_text::{MapDoc, RawBrush, RawEntity};

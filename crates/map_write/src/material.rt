@@ -3,7 +3,8 @@
 ghost use Rattle.std.specs.Prelude.{◌≡◌, ◌++◌, OnOk};
 ghost use Rattle.std.specs.List.{list_any};
 ghost use Rattle.map_lex.specs.Bytes.{begins_comment, is_blank};
-ghost use Rattle.map_write.specs.Written.{material_symbol, needs_quotes, written};
+ghost use Rattle.map_lex.specs.OneToken.{needs_quotes};
+ghost use Rattle.map_write.specs.Written.{material_symbol, written};
 
 use std::alloc::AllocError;
 

@@ -1,39 +1,41 @@
 //! Writes the texture of a face, in the two formats.
 
 ghost use Rattle.std.specs.Prelude.{◌≡◌, ◌++◌, [], ◌∷◌, OnOk, slice_index_or};
+ghost use Rattle.fixed_num.specs.Decimals.{offset_decimals, rotation_decimals, scale_decimals};
 ghost use Rattle.fixed_num.specs.Shortest.{shortest_decimal};
 ghost use Rattle.map_text.specs.Grammar.{axis_symbols, texture_symbols};
-ghost use Rattle.map_write.specs.Written.{at, axis_text, line_of, texture_text};
+ghost use Rattle.map_write.specs.Written.{at, axis_text, kept, line_of, surface_end, surface_of_tex, texture_text};
 
-use crate::numbers::write_number;
-use fixed_num::Micro;
+use crate::numbers::{write_micro_number, write_nano_number, write_pico_number};
+use crate::surface_writer::write_surface;
+use fixed_num::{Micro, Nano, Pico};
 use std::alloc::AllocError;
-use uv_lock::Tex;
+use uv_lock::{Surface, Tex};
 
-// Two numbers with a space between them.
-fn write_pair(text: &mut Vec<u8>, pair: [Micro; 2]) -> Result<(), AllocError>
-    ensures { OnOk result (text.new.items
-        ≡ text.old.items ++ (shortest_decimal 6 (at pair 0) ++ 32 ∷ shortest_decimal 6 (at pair 1))) }
+// The offsets along U and V.
+fn write_offsets(text: &mut Vec<u8>, offsets: [Pico; 2]) -> Result<(), AllocError>
+    ensures { OnOk result (text.new.items ≡ text.old.items
+        ++ (shortest_decimal offset_decimals (at offsets 0) ++ 32 ∷ shortest_decimal offset_decimals (at offsets 1))) }
 {
-    let [u, v] = pair;
-    write_number(text, u)?;
+    let [u, v] = offsets;
+    write_pico_number(text, u)?;
     text.push(b' ')?;
-    write_number(text, v)?;
+    write_pico_number(text, v)?;
     Ok(())
 }
 
-fn write_axis(text: &mut Vec<u8>, axis: [Micro; 3], offset: Micro) -> Result<(), AllocError>
-    ensures { OnOk result (text.new.items ≡ text.old.items ++ line_of (axis_symbols (axis_text axis offset))) }
+fn write_axis(text: &mut Vec<u8>, axis: [Nano; 3], offset: Pico) -> Result<(), AllocError>
+    ensures { OnOk result (text.new.items ≡ text.old.items ++ line_of (axis_symbols (axis_text kept axis offset))) }
 {
     let [x, y, z] = axis;
     text.extend_from_slice(b"[ ")?;
-    write_number(text, x)?;
+    write_nano_number(text, x)?;
     text.push(b' ')?;
-    write_number(text, y)?;
+    write_nano_number(text, y)?;
     text.push(b' ')?;
-    write_number(text, z)?;
+    write_nano_number(text, z)?;
     text.push(b' ')?;
-    write_number(text, offset)?;
+    write_pico_number(text, offset)?;
     text.extend_from_slice(b" ]")?;
     Ok(())
 }
@@ -41,12 +43,12 @@ fn write_axis(text: &mut Vec<u8>, axis: [Micro; 3], offset: Micro) -> Result<(),
 // The two axes U and V, with their offsets.
 fn write_axes(
     text: &mut Vec<u8>,
-    axes: [[Micro; 3]; 2],
-    offsets: [Micro; 2],
+    axes: [[Nano; 3]; 2],
+    offsets: [Pico; 2],
 ) -> Result<(), AllocError>
     ensures { OnOk result (text.new.items
-        ≡ text.old.items ++ (line_of (axis_symbols (axis_text (slice_index_or axes 0 []) (at offsets 0)))
-        ++ 32 ∷ line_of (axis_symbols (axis_text (slice_index_or axes 1 []) (at offsets 1))))) }
+        ≡ text.old.items ++ (line_of (axis_symbols (axis_text kept (slice_index_or axes 0 []) (at offsets 0)))
+        ++ 32 ∷ line_of (axis_symbols (axis_text kept (slice_index_or axes 1 []) (at offsets 1))))) }
 {
     let [u, v] = axes;
     let [u_offset, v_offset] = offsets;
@@ -60,25 +62,29 @@ fn write_axes(
 fn write_rotation_and_scales(
     text: &mut Vec<u8>,
     rotation: Micro,
-    scale: [Micro; 2],
+    scale: [Nano; 2],
 ) -> Result<(), AllocError>
     ensures { OnOk result (text.new.items ≡ text.old.items
-        ++ 32 ∷ (shortest_decimal 6 rotation ++ 32 ∷ (shortest_decimal 6 (at scale 0) ++ 32 ∷ shortest_decimal 6 (at scale 1)))) }
+        ++ 32 ∷ (shortest_decimal rotation_decimals rotation
+        ++ 32 ∷ (shortest_decimal scale_decimals (at scale 0) ++ 32 ∷ shortest_decimal scale_decimals (at scale 1)))) }
 {
+    let [u, v] = scale;
     text.push(b' ')?;
-    write_number(text, rotation)?;
+    write_micro_number(text, rotation)?;
     text.push(b' ')?;
-    write_pair(text, scale)?;
+    write_nano_number(text, u)?;
+    text.push(b' ')?;
+    write_nano_number(text, v)?;
     Ok(())
 }
 
-/// Appends the texture of a face: its offsets, or its axes with them, the rotation and the scales.
-pub(crate) fn write_texture(text: &mut Vec<u8>, tex: &Tex) -> Result<(), AllocError>
-    ensures { OnOk result (text.new.items ≡ text.old.items ++ line_of (texture_symbols (texture_text tex.now))) }
+// The offsets, or the axes with them, the rotation and the scales.
+fn write_fields(text: &mut Vec<u8>, tex: &Tex) -> Result<(), AllocError>
+    ensures { OnOk result (text.new.items ≡ text.old.items ++ line_of (texture_symbols (texture_text kept tex.now))) }
 {
     match tex {
         Tex::Standard(fields) => {
-            write_pair(text, fields.off)?;
+            write_offsets(text, fields.off)?;
             write_rotation_and_scales(text, fields.rotation, fields.scale)
         }
         Tex::Valve(fields) => {
@@ -86,4 +92,24 @@ pub(crate) fn write_texture(text: &mut Vec<u8>, tex: &Tex) -> Result<(), AllocEr
             write_rotation_and_scales(text, fields.rotation, fields.scale)
         }
     }
+}
+
+fn surface_of(tex: &Tex) -> Option<Surface>
+    ensures { result ≡ surface_of_tex tex.now }
+{
+    match tex {
+        Tex::Standard(fields) => fields.surface,
+        Tex::Valve(fields) => fields.surface,
+    }
+}
+
+/// Appends the texture of a face: its offsets, or its axes with them, the rotation and the scales, and the surface numbers
+/// where it has them.
+pub(crate) fn write_texture(text: &mut Vec<u8>, tex: &Tex) -> Result<(), AllocError>
+    ensures { OnOk result (text.new.items
+        ≡ text.old.items ++ (line_of (texture_symbols (texture_text kept tex.now)) ++ surface_end (surface_of_tex tex.now))) }
+{
+    write_fields(text, tex)?;
+    write_surface(text, surface_of(tex))?;
+    Ok(())
 }

@@ -1,1 +1,2 @@
 pub mod BaseAxes
+pub mod SurfaceNumbers

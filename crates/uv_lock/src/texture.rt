@@ -1,6 +1,7 @@
 //! How a texture lies on a face, in the two formats of Quake map files.
 
-use fixed_num::Micro;
+use crate::surface::Surface;
+use fixed_num::{Micro, Nano, Pico};
 
 /// How the faces of a map name their texture axes.
 #[derive(Clone, Copy, Debug, PartialEq, Eq, Hash)]
@@ -15,24 +16,28 @@ pub enum Format {
 #[derive(Clone, Copy, Debug, PartialEq, Eq)]
 pub struct StandardTex {
     /// The offsets along U and V, in texels.
-    pub off: [Micro; 2],
+    pub off: [Pico; 2],
     /// The rotation of the axes, in degrees.
     pub rotation: Micro,
     /// The map units of a texel along U and V; 0 counts as 1.
-    pub scale: [Micro; 2],
+    pub scale: [Nano; 2],
+    /// The surface numbers, where the face has them.
+    pub surface: Option<Surface>,
 }
 
 /// The texture fields of a face in the Valve 220 format.
 #[derive(Clone, Copy, Debug, PartialEq, Eq)]
 pub struct ValveTex {
     /// The axes U and V, each by its x, y and z.
-    pub axis: [[Micro; 3]; 2],
+    pub axis: [[Nano; 3]; 2],
     /// The offsets along U and V, in texels.
-    pub off: [Micro; 2],
+    pub off: [Pico; 2],
     /// The rotation, in degrees. The axes are turned already: it is kept and has no effect.
     pub rotation: Micro,
     /// The map units of a texel along U and V; 0 counts as 1.
-    pub scale: [Micro; 2],
+    pub scale: [Nano; 2],
+    /// The surface numbers, where the face has them.
+    pub surface: Option<Surface>,
 }
 
 /// The texture fields of a face.

@@ -2,24 +2,30 @@
 
 use super::table::same;
 use exact_geom::{Plane, Point};
-use fixed_num::{Micro, Text};
+use fixed_num::{Micro, Nano, Pico, Text};
 use std::test::Fail;
-use uv_lock::{Face, StandardTex, Tex, ValveTex};
+use uv_lock::{Face, StandardTex, Surface, Tex, ValveTex};
 
 const STANDARD: StandardTex = StandardTex {
-    off: [Micro(16_000_000), Micro(-500_000)],
+    off: [Pico(16_000_000_000_000), Pico(-500_000_000_000)],
     rotation: Micro(90_000_000),
-    scale: [Micro(1_000_000), Micro(0)],
+    scale: [Nano(1_000_000_000), Nano(0)],
+    surface: None,
 };
 
 const VALVE: ValveTex = ValveTex {
     axis: [
-        [Micro(1_000_000), Micro(0), Micro(0)],
-        [Micro(0), Micro(0), Micro(-1_000_000)],
+        [Nano(1_000_000_000), Nano(0), Nano(0)],
+        [Nano(0), Nano(0), Nano(-1_000_000_000)],
     ],
-    off: [Micro(0), Micro(999_999_999_999)],
+    off: [Pico(0), Pico(999_999_999_999_999_999)],
     rotation: Micro(0),
-    scale: [Micro(1_000_000), Micro(250_000)],
+    scale: [Nano(1_000_000_000), Nano(250_000_000)],
+    surface: Some(Surface {
+        contents: 4_294_967_295,
+        flags: -2_147_483_648,
+        value: Micro(50_500_000),
+    }),
 };
 
 #[test]

@@ -3,7 +3,7 @@ use Rattle.map_text.specs.Meaning.{format_by_version}
 use Rattle.map_text.specs.Refusals.{an_entity}
 use Rattle.map_text.specs.Reads.{IsRefusedAs}
 use Rattle.map_text.proofs.Passing.{passed_on}
-use Rattle.map_text.proofs.MapTexts.{format_or, entity_more, entity_shorter, is_refused, is_accepted, text_read, few_parts}
+use Rattle.map_text.proofs.MapTexts.{start_of, no_entities, format_or, entity_more, entity_shorter, is_refused, is_accepted, text_read, few_parts}
 use Rattle.map_text.proofs.map_text_reader.read_map.Goals as goal
 
 pub returns-in_err-begins_entity-clause-fault : goal.returns-in_err-begins_entity-clause-fault
@@ -17,6 +17,9 @@ returns-in_err-read_entity-clause-fault c =
     passed_on (λ fault. IsRefusedAs c.args.text.now fault) c.from_residual-in_err-read_entity.result c.in_err-read_entity.field-0.0 c.from_residual-in_err-read_entity.ensures.1
     (is_refused c.args.text.now c.in_err-read_entity.field-0.0
     (λ ne rest. c.entities.invariant.passes.goes rest ∙ begins.goes rest ∙ c.in_err-read_entity.ensures.fault ne (an_entity ∷ rest)))
+
+pub entities-init : goal.entities-init
+entities-init c = rw c.new-reader.ensures.state (no_entities (start_of c.args.text.now) c.new-entities.result.items c.new-entities.ensures.items)
 
 pub entities-smaller : goal.entities-smaller
 entities-smaller c = entity_shorter (rw c.if-branch.true at c.in_ok-begins_entity.ensures.read) c.in_ok-read_entity.ensures.read

@@ -4,7 +4,9 @@ use Rattle.map_text.specs.Parts.{coordinate_part}
 use Rattle.map_text.specs.Refusals.{a_number}
 use Rattle.map_text.specs.Reading.{IsRead, IsRefused}
 use Rattle.map_text.proofs.Passing.{passed_on, ok_of_found, err_of_found}
-use Rattle.map_text.proofs.NumberTexts.{no_coordinate, coordinate_read}
+use Rattle.map_text.specs.Judged.{judge, coordinate_reason}
+use Rattle.map_text.specs.Meaning.{whole_of}
+use Rattle.map_text.proofs.NumberTexts.{no_number, coordinate_read}
 use Rattle.map_text.proofs.number_text.read_coordinate.Goals as goal
 
 pub returns-in_err-token-clause-fault : goal.returns-in_err-token-clause-fault
@@ -18,5 +20,6 @@ returns-clause-read c =
 
 pub returns-clause-fault : goal.returns-clause-fault
 returns-clause-fault c =
+    let t = value_of c.in_ok-token.token in
     err_of_found (IsRefused c.args.reader.now (a_number ∷ [])) c.coordinate_in.result c.ok_or.result _ c.ok_or.ensures.value
-    (λ e. no_coordinate c.args.reader.now c.token.new.self (value_of c.in_ok-token.token) c.in_ok-token.ensures.token (e ∙ c.coordinate_in.ensures))
+    (λ e. no_number c.args.reader.now c.token.new.self t (judge (coordinate_reason t.text) (whole_of t.text)) c.in_ok-token.ensures.token (e ∙ c.coordinate_in.ensures))

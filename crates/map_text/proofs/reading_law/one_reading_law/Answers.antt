@@ -1,5 +1,5 @@
 use Rattle.map_text.proofs.OneReading.{one_reading}
-use Rattle.map_text.proofs.Fillings.{some_reading}
+use Rattle.map_text.proofs.FilledTexts.{some_reading}
 use Rattle.map_text.proofs.Acceptance.{accepted}
 use Rattle.map_text.proofs.reading_law.one_reading_law.Goals as goal
 

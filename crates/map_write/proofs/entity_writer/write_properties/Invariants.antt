@@ -1,5 +1,5 @@
 use Rattle.std.proofs.Common.{◌≡◌, ◌++◌, map, drop}
-use Rattle.map_text.specs.SavedText.{text_of}
+use Rattle.map_lex.specs.LineTexts.{text_of}
 use Rattle.map_write.specs.Written.{property_line}
 use Rattle.map_write.proofs.entity_writer.write_properties.Given as goal
 

@@ -14,11 +14,11 @@ returns c =
     let z : SFits w32 p.z = search rules in
     rw (
       c.in_ok-extend_from_slice-2.ensures.items,
-      c.in_ok-write_whole-3.ensures,
+      c.in_ok-write_coordinate-3.ensures,
       c.in_ok-push-2.ensures.items,
-      c.in_ok-write_whole-2.ensures,
+      c.in_ok-write_coordinate-2.ensures,
       c.in_ok-push.ensures.items,
-      c.in_ok-write_whole.ensures,
+      c.in_ok-write_coordinate.ensures,
       c.in_ok-extend_from_slice.ensures.items,
       to_z-of_z w32 p.x x,
       to_z-of_z w32 p.y y,

@@ -1,4 +1,4 @@
--- What is saved is read again.
+-- Lines and words that are joined are split again as they were.
 use Rattle.std.proofs.Common.{◌≡◌, ℕ, ℤ, pos, negsuc, suc, codes, ◌<◌, ◌≤◌, ◌^◌, Bool, true, false, not, ◌&&◌, ◌||◌, eqb, leb, List, [], ◌∷◌, ◌++◌, length, Some, refl, ap, ◌∙◌, arith, append_assoc, eq-eqb}
 use Rattle.std.specs.List.{list_all, slice_split, flat_map, join_with_byte, starts_with}
 use Rattle.std.specs.Bool.{nat_eq}

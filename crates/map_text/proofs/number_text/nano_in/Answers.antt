@@ -1,11 +1,13 @@
 use Rattle.std.proofs.Common.{refl}
-use Rattle.map_text.proofs.NumberTexts.{none_from_no_word, number_small, number_large}
+use Rattle.fixed_num.specs.Decimals.{axis_decimals}
 use Rattle.map_lex.specs.TokenList.{value_of}
-use Rattle.map_text.proofs.number_text.texture_number_in.Goals as goal
+use Rattle.map_text.specs.declared.document.Reason.TheVariants.{Texture}
+use Rattle.map_text.proofs.NumberTexts.{none_from_no_word, number_small, number_large}
+use Rattle.map_text.proofs.number_text.nano_in.Goals as goal
 
 pub returns-in-Ok : goal.returns-in-Ok
 returns-in-Ok c =
-    number_small (value_of c.args.token.now) c.in-Ok.number c.if-token.false c.in-Ok.ensures.ok (λ h. let e = c.in-Ok.ensures.too_large.1 h in cc)
+    number_small Texture axis_decimals (value_of c.args.token.now) c.in-Ok.number c.if-token.false c.in-Ok.ensures.ok (λ h. let e = c.in-Ok.ensures.too_large.1 h in cc)
 
 pub returns-in-Err-NotNumber : goal.returns-in-Err-NotNumber
 returns-in-Err-NotNumber c =
@@ -15,4 +17,4 @@ returns-in-Err-NotNumber c =
 pub returns-in-Err-TooLarge : goal.returns-in-Err-TooLarge
 returns-in-Err-TooLarge c =
     let e = rw c.in-Err-TooLarge.field-0-is at c.in-Err-TooLarge.ensures.too_large in
-    number_large (value_of c.args.token.now) c.if-token.false (e.0 refl)
+    number_large Texture axis_decimals (value_of c.args.token.now) c.if-token.false (e.0 refl)
