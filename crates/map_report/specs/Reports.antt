@@ -23,6 +23,7 @@ abbrev pub reason_name : Reason → List ℕ
 reason_name reason.Point = codes "point"
 reason_name reason.Range = codes "range"
 reason_name reason.Texture = codes "texture"
+reason_name reason.Surface = codes "surface"
 reason_name reason.Flat = codes "flat"
 reason_name reason.Many = codes "many"
 reason_name reason.Volume = codes "volume"

@@ -23,6 +23,7 @@ fn reason_name(reason: Reason) -> &'static [u8]
         Reason::Point => b"point",
         Reason::Range => b"range",
         Reason::Texture => b"texture",
+        Reason::Surface => b"surface",
         Reason::Flat => b"flat",
         Reason::Many => b"many",
         Reason::Volume => b"volume",
