@@ -1,0 +1,5 @@
+mod Carries
+mod Fullest
+mod Edits
+mod Shifted
+mod Rounded
