@@ -6,7 +6,7 @@ use Rattle.algebra.specs.Fractions.{Least}
 use Rattle.algebra.specs.Members.{◌∈◌}
 use Rattle.algebra.specs.Space.{Vector, dot, cross, minus, det, HalfSpace, side, whole_point}
 use Rattle.algebra.proofs.Expr.{read}
-use Rattle.algebra.proofs.Identities.{with_vector, with_half_space, with_point}
+use Rattle.algebra.proofs.Identities.{with_vector, with_half_space}
 use Rattle.algebra.proofs.Orders.{signs, positive-mul, nonneg_of_product, Scaled, scaled_nonpos}
 use Rattle.algebra.proofs.Ring.{ring}
 use Rattle.algebra.proofs.Fractions.{least_of}
@@ -14,7 +14,7 @@ use Rattle.algebra.proofs.Vectors.{nonzero}
 use Rattle.hull_laws.specs.Facets.{Triple, plane_of}
 use Rattle.hull_laws.specs.Pivots.{slope, border, Edge, FirstEdge, Neighbour}
 use Rattle.hull_laws.proofs.Separate.{cancel_zero}
-use Rattle.hull_laws.proofs.Walk.{Framed, framed, on_frame, border_wide}
+use Rattle.hull_laws.proofs.Walk.{framed, on_frame, border_wide}
 
 -- ---- borders with one line
 pub border-first : (f : HalfSpace) (p e : Vector) → side (border f p e) (whole_point p) ≡ pos 0

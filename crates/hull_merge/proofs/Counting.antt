@@ -3,7 +3,7 @@ use Rattle.std.proofs.Common.{◌≡◌, ℕ, zero, suc, ◌+◌, ◌*◌, ◌-�
 use Rattle.std.specs.List.{slice_get}
 use Rattle.std.proofs.lemmas.Int.{ints}
 use Rattle.std.proofs.lemmas.Option.{slice_get_within}
-use Rattle.algebra.specs.Members.{◌∈◌, here, there, Every}
+use Rattle.algebra.specs.Members.{here, Every}
 use Rattle.algebra.specs.Space.{Homogeneous, HalfSpace, det}
 use Rattle.algebra.proofs.Identities.{det-swap_12, det-swap_23, det-equal_12, det-equal_23}
 use Rattle.solid_laws.specs.Names.{Triple, Earlier, MeetAt, IsName, NamedBefore, NamesRise, no_points, one_more_point, AreVertices}

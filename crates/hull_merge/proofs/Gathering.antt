@@ -3,7 +3,7 @@ use Rattle.std.proofs.Common.{◌≡◌, ◌≤◌, ℕ, suc, ◌⊎◌, inl, in
 use Rattle.std.proofs.lemmas.List.{append-nil, append_assoc, map-append, length-append, length-map, take_all, map_push}
 use Rattle.std.proofs.Math.Seq.{take-suc}
 use Rattle.algebra.specs.Members.{◌∈◌, here, there}
-use Rattle.algebra.specs.Space.{Vector, Homogeneous, HalfSpace, whole_point}
+use Rattle.algebra.specs.Space.{Homogeneous, HalfSpace, whole_point}
 use Rattle.exact_geom.specs.declared.point.Point.{Point}
 use Rattle.exact_geom.specs.Planes.{vector}
 use Rattle.solid_laws.specs.Names.{AreVertices}

@@ -1,9 +1,9 @@
 -- Which points a hull has.
-use Rattle.std.proofs.Common.{◌≡◌, ℕ, refl, ap, ◌∙◌, sym, subst, Bool, true, false, if◌then◌else◌, not, ◌&&◌, int_eq, List, [], ◌∷◌, filter, map, ℤ, pos, ◌<ℤ◌, ◌≤ℤ◌, ◌↔◌, Decides}
+use Rattle.std.proofs.Common.{◌≡◌, ℕ, refl, ap, sym, subst, Bool, true, false, if◌then◌else◌, not, ◌&&◌, int_eq, List, [], ◌∷◌, filter, map, pos, ◌≤ℤ◌, ◌↔◌}
 use Rattle.std.proofs.lemmas.Bool.{false≢true}
 use Rattle.std.proofs.lemmas.Bool.Decides.{Decides-int_eq}
 use Rattle.algebra.specs.Members.{◌∈◌, here, there}
-use Rattle.algebra.specs.Space.{Vector, Homogeneous, side}
+use Rattle.algebra.specs.Space.{Vector, side}
 use Rattle.exact_geom.specs.declared.point.Point.{Point}
 use Rattle.exact_geom.specs.Planes.{vector}
 use Rattle.trim_laws.specs.Solid.{IsIn}

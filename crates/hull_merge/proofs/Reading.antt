@@ -1,14 +1,12 @@
 -- The vertices of a solid, read one after another.
-use Rattle.std.proofs.Common.{◌≡◌, ℕ, suc, ◌<◌, ◌≤◌, ◌+◌, List, [], ◌∷◌, ◌++◌, length, get_or, take, map, Option, Some, None, ap, ◌∙◌, sym, subst, refl, arith, pos, neg_ℤ, ℤ, ◌<ℤ◌, ◌≤ℤ◌, ◌*ℤ◌}
+use Rattle.std.proofs.Common.{◌≡◌, ℕ, ◌<◌, ◌≤◌, ◌+◌, List, [], ◌∷◌, ◌++◌, length, take, Option, Some, None, ap, ◌∙◌, sym, subst, refl, arith, pos}
 use Rattle.std.specs.Prelude.{slice_get}
-use Rattle.std.proofs.lemmas.Int.{ints}
 use Rattle.std.proofs.lemmas.List.{take_all}
 use Rattle.std.proofs.lemmas.Option.{get_or_from_slice_get, slice_get-get_or, slice_get_within}
 use Rattle.std.proofs.Math.Numerals.{suc-eq-add-one}
 use Rattle.std.proofs.Math.Seq.{take-suc}
-use Rattle.algebra.specs.Members.{◌∈◌, Every}
+use Rattle.algebra.specs.Members.{Every}
 use Rattle.algebra.specs.Space.{Homogeneous, HalfSpace}
-use Rattle.algebra.proofs.Members.{member_at}
 use Rattle.algebra.specs.World.{InCube, world}
 use Rattle.solid_laws.specs.Names.{AreVertices}
 use Rattle.solid_laws.specs.FaceLoop.{HasVertexCount, HasVertex}

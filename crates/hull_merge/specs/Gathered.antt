@@ -1,6 +1,6 @@
 -- The vertices of solids as points.
 use Rattle.std.specs.Prelude.{◌≡◌, ◌^◌, ◌++◌, ℕ, ◌<◌, List, [], ◌∷◌, length, get_or, map, pos}
-use Rattle.algebra.specs.Members.{◌∈◌, Every}
+use Rattle.algebra.specs.Members.{◌∈◌}
 use Rattle.algebra.specs.Space.{Homogeneous, HalfSpace, whole_point}
 use Rattle.exact_geom.specs.declared.point.Point.{Point}
 use Rattle.exact_geom.specs.Planes.{vector}
@@ -9,8 +9,6 @@ use Rattle.vertex_laws.specs.Vertex.{IsVertex}
 use Rattle.solid_laws.specs.Names.{AreVertices}
 use Rattle.solid_brush.specs.declared.side.Side.{Side}
 use Rattle.solid_brush.specs.Sides.{half_spaces}
-use Rattle.hull_laws.specs.Facets.{firsts}
-use Rattle.hull_laws.specs.Moved.{same_point}
 use Rattle.hull_merge.specs.Hulls.{distinct}
 use Rattle.hull_merge.specs.declared.gather_fault.GatherFault.{GatherFault}
 use Rattle.hull_merge.specs.declared.gather_fault.GatherFault.TheVariants.{Fractional, Memory}

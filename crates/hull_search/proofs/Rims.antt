@@ -1,12 +1,11 @@
 -- The scan for the edge of a face from a corner.
-use Rattle.std.proofs.Common.{◌≡◌, Bool, true, false, ℕ, ◌+◌, ◌<◌, List, length, subst, arith, below_more, pos, ◌<ℤ◌, ◌≤ℤ◌}
-use Rattle.std.proofs.lemmas.Int.{ints, by_lt_z}
-use Rattle.algebra.specs.Members.{Every}
+use Rattle.std.proofs.Common.{◌≡◌, true, ℕ, ◌+◌, ◌<◌, List, length, arith, below_more, pos, ◌<ℤ◌, ◌≤ℤ◌}
+use Rattle.std.proofs.lemmas.Int.{by_lt_z}
 use Rattle.algebra.specs.Space.{Vector, HalfSpace, dot, minus, side, whole_point}
 use Rattle.algebra.proofs.Members.{member_at}
 use Rattle.algebra.proofs.Vectors.{nonzero}
 use Rattle.hull_laws.specs.Facets.{origin}
-use Rattle.hull_laws.specs.Pivots.{slope, border, Edge, FirstEdge, On}
+use Rattle.hull_laws.specs.Pivots.{slope, border, Edge, FirstEdge}
 use Rattle.hull_laws.proofs.Line.{kept, met, met_end}
 use Rattle.hull_laws.proofs.Separate.{slope-at}
 use Rattle.hull_search.specs.Places.{point, number, same_place, AreOn, IsOtherOn, IsEdgeEnd}

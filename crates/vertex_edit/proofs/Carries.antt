@@ -1,5 +1,5 @@
 -- Vertices that are carried onto a plane, one after another.
-use Rattle.std.proofs.Common.{◌≡◌, ℕ, zero, suc, ◌+◌, ◌<◌, Bool, true, false, ◌&&◌, if◌then◌else◌, List, [], ◌∷◌, ◌++◌, length, get_or, take, map, filter, count_by, fold, cond, refl, ap, ◌∙◌, sym, arith, pos, int_eq, ◌≤◌, IsTrue}
+use Rattle.std.proofs.Common.{◌≡◌, ℕ, zero, suc, ◌+◌, ◌<◌, Bool, true, false, ◌&&◌, List, [], ◌∷◌, ◌++◌, length, get_or, take, map, filter, count_by, fold, cond, refl, ap, ◌∙◌, sym, arith, pos, int_eq, ◌≤◌, IsTrue}
 use Rattle.std.specs.Int.{from_bool}
 use Rattle.std.proofs.lemmas.Bool.{false≢true}
 use Rattle.std.proofs.lemmas.Bool.Decides.{Decides-int_eq}
@@ -8,7 +8,7 @@ use Rattle.std.proofs.lemmas.List.Sums.{count_by_more_yes, count_by_more_no, cou
 use Rattle.std.proofs.lemmas.List.Elements.{filter-append}
 use Rattle.std.proofs.Math.Seq.{take-suc}
 use Rattle.std.proofs.Math.Numerals.{suc-eq-add-one}
-use Rattle.algebra.specs.Space.{Vector, Homogeneous, HalfSpace, side, whole_point}
+use Rattle.algebra.specs.Space.{Homogeneous, HalfSpace, side, whole_point}
 use Rattle.exact_geom.specs.declared.point.Point.{Point}
 use Rattle.exact_geom.specs.Planes.{vector}
 use Rattle.hull_laws.specs.Moved.{Carried, carried_onto}

@@ -1,15 +1,15 @@
 -- The brush of moved vertices, from the hull of their places.
-use Rattle.std.proofs.Common.{◌≡◌, ℕ, zero, suc, ◌+◌, ◌<◌, ◌≤◌, List, [], ◌∷◌, ◌++◌, length, get_or, take, map, refl, ap, ◌∙◌, sym, subst, arith, ◌⊎◌, inl, inr}
+use Rattle.std.proofs.Common.{◌≡◌, ℕ, zero, suc, ◌+◌, ◌<◌, List, [], ◌∷◌, ◌++◌, length, get_or, map, refl, ap, ◌∙◌, sym, subst, arith, ◌⊎◌, inl, inr}
 use Rattle.std.proofs.lemmas.List.{length-map, get_or_push, get_or_append_left, get_or_default, length-append}
-use Rattle.algebra.specs.Space.{Vector, Homogeneous, HalfSpace, through}
+use Rattle.algebra.specs.Space.{Homogeneous, HalfSpace, through}
 use Rattle.exact_geom.specs.declared.point.Point.{Point}
 use Rattle.exact_geom.specs.Planes.{vector}
 use Rattle.hull_laws.specs.Facets.{Spans, Triple, origin, plane_of, Facets, firsts}
 use Rattle.hull_laws.specs.Moved.{Carried, same_point, moved_points, OldFace}
 use Rattle.solid_brush.specs.declared.side.Side.{Side}
-use Rattle.solid_brush.specs.Sides.{bounds, half_spaces}
+use Rattle.solid_brush.specs.Sides.{bounds}
 use Rattle.algebra.proofs.Members.{member_at}
-use Rattle.hull_merge.specs.Hulls.{IsHull, IsWithin, AreFirstPlaces, distinct, side_of, sides_from, zero_point}
+use Rattle.hull_merge.specs.Hulls.{IsHull, distinct, side_of, sides_from, zero_point}
 use Rattle.vertex_edit.specs.declared.shape.FromFace.{FromFace}
 use Rattle.vertex_edit.specs.Carrying.{carry}
 use Rattle.vertex_edit.specs.Edits.{corners_of, IsOldOf, AreFrom, IsFrom, IsEdit}

@@ -1,5 +1,5 @@
 -- The face with the most of some vertices.
-use Rattle.std.proofs.Common.{◌≡◌, ℕ, ◌+◌, ◌<◌, ◌≤◌, List, length, get_or, arith, ap, subst, ◌⊎◌, inl, inr, sym}
+use Rattle.std.proofs.Common.{◌≡◌, ℕ, ◌+◌, ◌<◌, ◌≤◌, List, length, get_or, arith, subst, ◌⊎◌, inl, inr, sym}
 use Rattle.algebra.specs.Space.{Homogeneous, HalfSpace}
 use Rattle.hull_laws.specs.Moved.{Carried, nowhere, OldFace}
 use Rattle.vertex_edit.specs.Carrying.{onto, count_on, IsFullest}

@@ -1,9 +1,9 @@
 -- Vertices that are rounded, one after another.
-use Rattle.std.proofs.Common.{◌≡◌, ℕ, suc, ◌+◌, ◌<◌, ◌≤◌, List, [], ◌∷◌, ◌++◌, length, get_or, take, map, refl, ap, ◌∙◌, sym, subst, arith, ◌⊎◌, inl, inr, ℤ, pos, unsigned_abs, nat_le, ◌&&◌, IsTrue, Bool, true}
+use Rattle.std.proofs.Common.{◌≡◌, ℕ, suc, ◌+◌, ◌<◌, ◌≤◌, List, [], ◌∷◌, ◌++◌, length, get_or, take, map, refl, ◌∙◌, sym, subst, arith, ◌⊎◌, inl, inr, ℤ, unsigned_abs, nat_le, ◌&&◌, IsTrue, true}
 use Rattle.std.proofs.lemmas.Bool.Decides.{nat_tests}
 use Rattle.std.proofs.lemmas.Int.{ints}
 use Rattle.std.proofs.lemmas.List.{get_or_push, get_or_append_left, get_or_default, length-append, length-take-le, get_or-take}
-use Rattle.algebra.specs.Members.{◌∈◌, here, there, Every}
+use Rattle.algebra.specs.Members.{here, there, Every}
 use Rattle.algebra.proofs.Members.{each_of_more, each_of_none}
 use Rattle.algebra.specs.Space.{Vector, Homogeneous, HalfSpace, whole_point}
 use Rattle.algebra.specs.World.{InCube, world}
@@ -12,7 +12,6 @@ use Rattle.exact_geom.specs.Machine.{IsWithin}
 use Rattle.exact_geom.specs.Planes.{vector, is_in_range}
 use Rattle.exact_geom.specs.Rounding.{IsRounded}
 use Rattle.solid_laws.specs.Names.{AreVertices}
-use Rattle.hull_laws.specs.Moved.{Carried}
 use Rattle.hull_laws.proofs.Faces.{each_of_map}
 use Rattle.hull_merge.specs.Hulls.{Outside, distinct}
 use Rattle.hull_merge.proofs.Held.{of_firsts}

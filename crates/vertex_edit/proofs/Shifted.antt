@@ -1,5 +1,5 @@
 -- Picked vertices and where they go.
-use Rattle.std.proofs.Common.{◌≡◌, ℕ, ◌+◌, ◌^◌, ◌<◌, ◌≤◌, Bool, true, false, ◌&&◌, ◌||◌, if◌then◌else◌, IsTrue, List, [], ◌∷◌, length, get_or, map, Result, Ok, Err, IfOk, IfErr, Decides, FitsSigned, w32, to_z, of_z, lit<, refl, ap, ◌∙◌, sym, subst, arith, ℤ, pos, ◌+ℤ◌, unsigned_abs, nat_le, int_eq}
+use Rattle.std.proofs.Common.{◌≡◌, ℕ, ◌^◌, ◌<◌, ◌≤◌, Bool, true, false, ◌&&◌, ◌||◌, if◌then◌else◌, IsTrue, List, [], ◌∷◌, length, get_or, map, Result, Ok, Err, IfOk, IfErr, Decides, FitsSigned, w32, to_z, of_z, lit<, refl, ap, ◌∙◌, sym, subst, arith, ℤ, pos, int_eq}
 use Rattle.std.specs.Int.{w128}
 use Rattle.std.proofs.lemmas.Int.{ints, to_z-of_z}
 use mir.Val.{hbits}
@@ -15,7 +15,7 @@ use Rattle.exact_geom.specs.Planes.{vector, is_in_range}
 use Rattle.algebra.specs.World.{InCube, world}
 use Rattle.solid_laws.specs.Names.{AreVertices}
 use Rattle.solid_brush.specs.declared.side.Side.{Side}
-use Rattle.hull_laws.specs.Moved.{Carried, moved_points}
+use Rattle.hull_laws.specs.Moved.{Carried}
 use Rattle.hull_merge.specs.Hulls.{distinct}
 use Rattle.hull_merge.specs.Gathered.{whole_of, HasWeight}
 use Rattle.vertex_edit.specs.declared.shape.FromFace.{FromFace}
@@ -24,7 +24,7 @@ use Rattle.vertex_edit.specs.declared.fault.MoveFault.TheVariants.{NoVertex, Fra
 use Rattle.vertex_edit.specs.Carrying.{carry}
 use Rattle.vertex_edit.specs.Edits.{IsEdit}
 use Rattle.vertex_edit.specs.Places.{IsInWorld, moved, is_pick, place_of, GoesInRange, AreShifted, IsMoved}
-use Rattle.vertex_edit.specs.MoveFaults.{IsFirstAt, IsNoEditFor, IsNoMoveFor}
+use Rattle.vertex_edit.specs.MoveFaults.{IsNoEditFor, IsNoMoveFor}
 use Rattle.vertex_edit.proofs.Edits.{moved_are}
 use Rattle.vertex_edit.proofs.Rounded.{in_range}
 

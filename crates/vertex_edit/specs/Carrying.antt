@@ -1,5 +1,5 @@
 -- How many vertices of a face are carried onto a plane.
-use Rattle.std.specs.Prelude.{◌≡◌, ℕ, Bool, ◌<◌, ◌≤◌, List, [], ◌∷◌, map, filter, length, get_or, count_by, pos}
+use Rattle.std.specs.Prelude.{ℕ, ◌<◌, ◌≤◌, List, [], ◌∷◌, map, filter, get_or, count_by, pos}
 use Rattle.std.specs.Ordering.{int_eq}
 use Rattle.algebra.specs.Space.{Homogeneous, HalfSpace, side, whole_point}
 use Rattle.exact_geom.specs.declared.point.Point.{Point}

@@ -1,7 +1,6 @@
 -- The brush of moved vertices.
 use Rattle.std.specs.Prelude.{◌≡◌, ℕ, ◌<◌, List, [], ◌∷◌, length, get_or, map}
-use Rattle.algebra.specs.Space.{Vector, Homogeneous, HalfSpace}
-use Rattle.exact_geom.specs.declared.point.Point.{Point}
+use Rattle.algebra.specs.Space.{Vector, HalfSpace}
 use Rattle.exact_geom.specs.Planes.{vector}
 use Rattle.solid_brush.specs.declared.side.Side.{Side}
 use Rattle.solid_brush.specs.Sides.{bounds, half_spaces, IsSolid}

@@ -1,5 +1,5 @@
 -- Why vertices can't be moved.
-use Rattle.std.specs.Prelude.{◌≡◌, ℕ, ◌+◌, ◌<◌, ◌≤◌, List, length, get_or, ℤ, pos}
+use Rattle.std.specs.Prelude.{◌≡◌, ℕ, ◌+◌, ◌<◌, ◌≤◌, List, length, get_or, ℤ}
 use Rattle.algebra.specs.Members.{◌∈◌, Every}
 use Rattle.algebra.specs.Space.{Vector, Homogeneous, HalfSpace}
 use Rattle.exact_geom.specs.declared.point.Point.{Point}

@@ -3,7 +3,7 @@ use Rattle.std.specs.Prelude.{◌≡◌, ℕ, Bool, ◌&&◌, if◌then◌else�
 use Rattle.std.specs.List.{list_any}
 use Rattle.std.specs.Ordering.{int_eq}
 use Rattle.algebra.specs.Members.{◌∈◌, Every}
-use Rattle.algebra.specs.Space.{Vector, Homogeneous, HalfSpace}
+use Rattle.algebra.specs.Space.{Homogeneous, HalfSpace}
 use Rattle.exact_geom.specs.declared.point.Point.{Point}
 use Rattle.exact_geom.specs.Machine.{IsWithin}
 use Rattle.exact_geom.specs.Planes.{vector, is_in_range}

@@ -1,5 +1,5 @@
 -- Why vertices can't be rounded.
-use Rattle.std.specs.Prelude.{ℕ, ◌<◌, List, ℤ}
+use Rattle.std.specs.Prelude.{◌<◌, List, ℤ}
 use Rattle.algebra.specs.Space.{Vector, HalfSpace}
 use Rattle.hull_laws.specs.Facets.{Spans}
 use Rattle.hull_laws.specs.Moved.{Carried, moved_points}

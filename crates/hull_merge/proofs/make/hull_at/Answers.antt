@@ -1,5 +1,4 @@
-use Rattle.std.proofs.Common.{◌≡◌, map, ap, ◌∙◌, sym, subst, arith, is_some, IfSome}
-use Rattle.algebra.specs.Space.{Vector}
+use Rattle.std.proofs.Common.{◌≡◌, map, ap, ◌∙◌, subst, arith, is_some, IfSome}
 use Rattle.hull_laws.specs.Facets.{Spans, Facets}
 use Rattle.hull_search.specs.Slopes.{spots}
 use Rattle.hull_search.specs.Places.{corners}

@@ -1,4 +1,4 @@
-use Rattle.std.proofs.Common.{length, refl, sym, subst, arith, IfSome}
+use Rattle.std.proofs.Common.{refl, sym, subst, arith, IfSome}
 use Rattle.std.proofs.lemmas.List.{length-map}
 use Rattle.hull_search.specs.Slopes.{face, spots}
 use Rattle.hull_search.specs.Places.{IsOtherOn, IsEdgeEnd}

@@ -1,8 +1,8 @@
-use Rattle.std.proofs.Common.{◌≡◌, ◌+◌, take, ap, ◌∙◌, arith, sym}
+use Rattle.std.proofs.Common.{◌+◌, take, ap, ◌∙◌, arith, sym}
 use Rattle.std.proofs.lemmas.List.{take_all}
 use Rattle.exact_geom.specs.Planes.{half_space}
 use Rattle.vertex_edit.specs.Carrying.{count_on}
-use Rattle.vertex_edit.proofs.Carries.{count_more, count_low}
+use Rattle.vertex_edit.proofs.Carries.{count_more}
 use Rattle.vertex_edit.proofs.old_face.count_on.Goals as goal
 
 pub loop-vertex-preserved : goal.loop-vertex-preserved
