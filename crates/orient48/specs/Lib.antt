@@ -1,0 +1,4 @@
+pub mod Kept
+pub mod Motions
+pub mod Orients
+pub mod MotionTexts
