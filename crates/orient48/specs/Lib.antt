@@ -1,4 +1,7 @@
 pub mod Kept
+pub mod Laws
+pub mod MotionTexts
 pub mod Motions
 pub mod Orients
-pub mod MotionTexts
+pub mod Reading
+pub mod Rows

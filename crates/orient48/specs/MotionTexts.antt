@@ -1,5 +1,5 @@
 -- Motions as texts: sixteen numbers row by row, with the shift as a fourth column and 0 0 0 1 as the last row.
-use Rattle.std.specs.Prelude.{ℕ, Bool, true, false, ◌&&◌, ◌||◌, ◌==◌, cond, List, [], ◌∷◌, ◌++◌, Option, Some, None, option_map, option_and_then, codes, ℤ, pos, int_div, int_rem}
+use Rattle.std.specs.Prelude.{ℕ, Bool, false, ◌&&◌, ◌||◌, ◌==◌, cond, List, [], ◌∷◌, ◌++◌, length, slice_index_or, Option, Some, None, option_map, option_and_then, codes, ℤ, pos, int_div, int_rem}
 use Rattle.std.specs.List.{join_with_byte}
 use Rattle.std.specs.Fmt.{signed_decimal}
 use Rattle.std.specs.Ordering.{int_eq}
@@ -44,10 +44,13 @@ is_last_row x y z w = int_eq x (pos 0) && (int_eq y (pos 0) && (int_eq z (pos 0)
 
 -- Sixteen numbers, row by row: a signed permutation with its shift, and the last row 0 0 0 1.
 abbrev pub motion_of_numbers : List ℤ → Option Motion
-motion_of_numbers (a ∷ b ∷ c ∷ x ∷ d ∷ e ∷ f ∷ y ∷ g ∷ h ∷ i ∷ z ∷ p ∷ q ∷ r ∷ s ∷ []) =
-    cond (is_last_row p q r s)
-    (kept_motion (record { matrix = record { x = vector_at a b c; y = vector_at d e f; z = vector_at g h i }; shift = vector_at x y z })) None
-motion_of_numbers numbers = None
+motion_of_numbers numbers =
+    let at : ℕ → ℤ = λ k. slice_index_or numbers k (pos 0) in
+    cond (length numbers == 16 && is_last_row (at 12) (at 13) (at 14) (at 15))
+    (kept_motion (record {
+      matrix = record { x = vector_at (at 0) (at 1) (at 2); y = vector_at (at 4) (at 5) (at 6); z = vector_at (at 8) (at 9) (at 10) };
+      shift = vector_at (at 3) (at 7) (at 11);
+    })) None
 
 -- The motion that a text stands for.
 abbrev pub read_motion : List ℕ → Option Motion

@@ -1,7 +1,7 @@
 -- Motions: a signed permutation of the coordinates, and then a shift. A motion has no bound here; where one is kept, its shift has.
 use Rattle.std.specs.Prelude.{ℕ, zero, suc, Bool, ◌&&◌, ◌||◌, ◌==◌, nat_le, cond, ℤ, pos, negsuc, ◌+ℤ◌, unsigned_abs}
 use Rattle.std.specs.Ordering.{int_eq}
-use Rattle.algebra.specs.Space.{Vector, dot, det, plus, minus, scale}
+use Rattle.algebra.specs.Space.{Vector, Homogeneous, HalfSpace, dot, det, plus, minus, scale}
 use Rattle.exact_geom.specs.declared.axis.Axis.{Axis}
 use Rattle.exact_geom.specs.declared.axis.Axis.TheVariants.{X, Y, Z}
 use Rattle.exact_geom.specs.declared.point.Point.{Point}
@@ -142,3 +142,11 @@ abbrev pub moved_plane : Motion → ThreePoints → ThreePoints
 moved_plane m t =
     let a = moved_point m t.p0 in let b = moved_point m t.p1 in let c = moved_point m t.p2 in
     cond (is_flip m.matrix) (record { p0 = c; p1 = b; p2 = a }) (record { p0 = a; p1 = b; p2 = c })
+
+-- Where a homogeneous point goes.
+abbrev pub moved_at : Motion → Homogeneous → Homogeneous
+moved_at m p = record { vector = plus (turned m.matrix p.vector) (scale p.weight m.shift); weight = p.weight }
+
+-- The half-space that has at each moved point the side that the old one had at the point.
+abbrev pub moved_half : Motion → HalfSpace → HalfSpace
+moved_half m f = record { normal = turned m.matrix f.normal; distance = f.distance +ℤ dot (turned m.matrix f.normal) m.shift }

@@ -5,8 +5,12 @@
 //! `None` or an error comes only where a limit is passed. Only `write_motion` takes memory.
 #![tactic(auto)]
 
+mod laws;
 mod motion;
 mod orient;
+mod row;
+mod tables;
 
+pub use laws::motions_law;
 pub use motion::Motion;
 pub use orient::Orient;

@@ -1,0 +1,12 @@
+pub mod Changed
+pub mod Entries
+pub mod Following
+pub mod Matrices
+pub mod Moves
+pub mod Numbers
+pub mod Parts
+pub mod Planes
+pub mod Quarters
+pub mod Reach
+pub mod Signs
+pub mod Units
