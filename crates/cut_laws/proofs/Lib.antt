@@ -5,5 +5,6 @@ pub mod CutFace
 pub mod Missed
 pub mod Leaving
 pub mod TrimStep
+pub mod FaceTrims
 pub mod Incoming
 pub mod Bound

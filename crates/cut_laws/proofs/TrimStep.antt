@@ -21,7 +21,7 @@ use Rattle.cut_laws.proofs.CutFace.{kept_face as kept_face_behind, gone_face, ne
 use Rattle.cut_laws.proofs.Missed.{alone_at, missed_new, missed_old}
 
 -- ---- a face that bears in a shorter list with the same points
-part_proper : (M N : List HalfSpace) → ((g : HalfSpace) → g ∈ N → g ∈ M) → Proper M → Proper N
+pub part_proper : (M N : List HalfSpace) → ((g : HalfSpace) → g ∈ N → g ∈ M) → Proper M → Proper N
 part_proper M N i r g m = r g (i g m)
 
 part_inside : (M N : List HalfSpace) (o : Homogeneous) → ((g : HalfSpace) → g ∈ N → g ∈ M) → IsInside M o → IsInside N o
@@ -56,7 +56,7 @@ pub record Shared (L G : List HalfSpace) (P : HalfSpace) (M N : List HalfSpace) 
   pub P_in : P ∈ N
   pub found : (g : HalfSpace) → g ∈ L → Bears L g → Found g G
 
-up_to : {L G : List HalfSpace} {P : HalfSpace} {M N : List HalfSpace} → Shared L G P M N → (f : HalfSpace) → f ∈ N → Bears N f → Bears M f
+pub up_to : {L G : List HalfSpace} {P : HalfSpace} {M N : List HalfSpace} → Shared L G P M N → (f : HalfSpace) → f ∈ N → Bears N f → Bears M f
 up_to {L} {G} {P} {M} {N} s f m e = whole_bears M N f s.o s.proper s.inside s.part s.points m e
 
 -- B: the faces of L so far; C: those of them that are in G; K: those of G that are still to come
@@ -67,12 +67,12 @@ pub record So (L G B C rest K : List HalfSpace) : Type 0 where
   pub kg : (g : HalfSpace) → g ∈ K → g ∈ G
   pub gk : (g : HalfSpace) → g ∈ G → (g ∈ C) ⊎ (g ∈ K)
 
-shift : {C K : List HalfSpace} {f : HalfSpace} (g : HalfSpace) → (g ∈ C) ⊎ (g ∈ (f ∷ K)) → (g ∈ (f ∷ C)) ⊎ (g ∈ K)
+pub shift : {C K : List HalfSpace} {f : HalfSpace} (g : HalfSpace) → (g ∈ C) ⊎ (g ∈ (f ∷ K)) → (g ∈ (f ∷ C)) ⊎ (g ∈ K)
 shift g (inl m) = inl (there m)
 shift g (inr here) = inl here
 shift g (inr (there m)) = inr m
 
-take : {L G B C rest K : List HalfSpace} {f : HalfSpace} → So L G B C (f ∷ rest) (f ∷ K) → So L G (f ∷ B) (f ∷ C) rest K
+pub take : {L G B C rest K : List HalfSpace} {f : HalfSpace} → So L G B C (f ∷ rest) (f ∷ K) → So L G (f ∷ B) (f ∷ C) rest K
 take {L} {G} {B} {C} {rest} {K} {f} s = record {
   cb = each_of_more (λ g. g ∈ (f ∷ B)) f C here (λ g m. there (s.cb g m));
   bl = each_of_more (λ g. g ∈ L) f B (s.rl f here) s.bl;
@@ -81,7 +81,7 @@ take {L} {G} {B} {C} {rest} {K} {f} s = record {
   gk = λ g m. shift g (s.gk g m);
 }
 
-skip : {L G B C rest K : List HalfSpace} {f : HalfSpace} → So L G B C (f ∷ rest) K → So L G (f ∷ B) C rest K
+pub skip : {L G B C rest K : List HalfSpace} {f : HalfSpace} → So L G B C (f ∷ rest) K → So L G (f ∷ B) C rest K
 skip {L} {G} {B} {C} {rest} {K} {f} s = record {
   cb = λ g m. there (s.cb g m);
   bl = each_of_more (λ g. g ∈ L) f B (s.rl f here) s.bl;
@@ -98,7 +98,7 @@ found_in {A} {L} {G} {B} {C} {P} {f} so n s r = by (so.gk r.face r.among)
     by (inr m) = elim m [ ]
 
 -- the new plane is kept after all faces of L where it is after all faces of G
-kept_after : (L G : List HalfSpace) (P : HalfSpace) (M N : List HalfSpace) → Shared L G P M N → {B C : List HalfSpace} → So L G B C [] [] → IsKept N C P → IsKept M B P
+pub kept_after : (L G : List HalfSpace) (P : HalfSpace) (M N : List HalfSpace) → Shared L G P M N → {B C : List HalfSpace} → So L G B C [] [] → IsKept N C P → IsKept M B P
 kept_after L G P M N s so k = record {
   first = λ g m e.
       let b = bears_same M P g (same_sym e) (s.proper P (s.part P s.P_in)) (up_to s P s.P_in k.bears) in
@@ -106,10 +106,10 @@ kept_after L G P M N s so k = record {
   bears = up_to s P s.P_in k.bears;
 }
 
-kept_before : (L G : List HalfSpace) (P f : HalfSpace) (M N : List HalfSpace) → Shared L G P M N → {B C rest K : List HalfSpace} → So L G B C rest K → IsKept M B f → IsKept N C f
+pub kept_before : (L G : List HalfSpace) (P f : HalfSpace) (M N : List HalfSpace) → Shared L G P M N → {B C rest K : List HalfSpace} → So L G B C rest K → IsKept M B f → IsKept N C f
 kept_before L G P f M N s so k = record { first = λ g m. k.first g (so.cb g m); bears = bears_in_part M N f s.part k.bears }
 
-shared : (L G : List HalfSpace) (P : HalfSpace) (o : Homogeneous) → Proper (back L P) → IsInside (back L P) o → Trim L G → Shared L G P (back L P) (back G P)
+pub shared : (L G : List HalfSpace) (P : HalfSpace) (o : Homogeneous) → Proper (back L P) → IsInside (back L P) o → Trim L G → Shared L G P (back L P) (back G P)
 shared L G P o r i t =
     let left = in_left L P in
     let inner = part_inside (back L P) L o left i in
@@ -125,7 +125,7 @@ shared L G P o r i t =
       found = λ g m b. kept_face L G g proper t m b;
     }
 
-at_start : (L G : List HalfSpace) → So L G [] [] L G
+pub at_start : (L G : List HalfSpace) → So L G [] [] L G
 at_start L G = record { cb = λ g m. elim m [ ]; bl = λ g m. elim m [ ]; rl = λ g m. m; kg = λ g m. m; gk = λ g m. inr m }
 
 -- ---- what is trimmed from the shorter list is trimmed from the longer one

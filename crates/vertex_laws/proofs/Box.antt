@@ -127,16 +127,16 @@ pub box_leaves : BoxLeavesLaw
 box_leaves F a i = (leaves_within F a i, λ e. record { at = e.at; is_in = in_own reach F e.at e.is_in; outside = e.outside })
 
 -- ---- where no point lies outside the world, the cube's faces bear nothing
-abbrev Within : List HalfSpace → Type 0
+abbrev pub Within : List HalfSpace → Type 0
 Within F = (p : Homogeneous) → IsIn F p → InCube world p
 
 behind_walls : (F : List HalfSpace) → Within F → (p : Homogeneous) → IsIn F p → (k : HalfSpace) → k ∈ cube reach → side k p <ℤ pos 0
 behind_walls F w p i = world_behind p i.weight (w p i)
 
-wall_idles : (F : List HalfSpace) → Within F → (k : HalfSpace) → k ∈ cube reach → ¬ (Bears (boxed reach F) k)
+pub wall_idles : (F : List HalfSpace) → Within F → (k : HalfSpace) → k ∈ cube reach → ¬ (Bears (boxed reach F) k)
 wall_idles F w k m b = let z = b.on in let l = behind_walls F w b.at (in_own reach F b.at (bears_in b)) k m in absurd (omega (arith, ints))
 
-box_bears : (F : List HalfSpace) (f : HalfSpace) → Within F → Bears F f → Bears (boxed reach F) f
+pub box_bears : (F : List HalfSpace) (f : HalfSpace) → Within F → Bears F f → Bears (boxed reach F) f
 box_bears F f w b = record {
   at = b.at;
   weight = b.weight;
@@ -144,7 +144,7 @@ box_bears F f w b = record {
   others = each_boxed (λ g. ¬ (SameHalfSpace f g) → side g b.at <ℤ pos 0) reach F (λ k m n. behind_walls F w b.at (bears_in b) k m) b.others;
 }
 
-no_wall : {A : Type 0} (F : List HalfSpace) (f k : HalfSpace) → Within F → pos 0 <ℤ dot f.normal f.normal → Bears F f → k ∈ cube reach → SameHalfSpace k f → A
+pub no_wall : {A : Type 0} (F : List HalfSpace) (f k : HalfSpace) → Within F → pos 0 <ℤ dot f.normal f.normal → Bears F f → k ∈ cube reach → SameHalfSpace k f → A
 no_wall {A} F f k w p b m s = let z = same_on f k b.at (same_sym s) p b.weight b.on in let l = behind_walls F w b.at (bears_in b) k m in absurd (omega (arith, ints))
 
 skip_wall : {F earlier rest G : List HalfSpace} (k : HalfSpace) → ¬ (Bears F k) → Trims F earlier (k ∷ rest) G → Trims F (k ∷ earlier) rest G
@@ -156,7 +156,7 @@ pub record Over (earlier boxed : List HalfSpace) : Type 0 where
   pub under : (g : HalfSpace) → g ∈ earlier → g ∈ boxed
   pub over : (g : HalfSpace) → g ∈ boxed → g ∈ earlier ⊎ g ∈ cube reach
 
-over_more : {earlier boxed : List HalfSpace} (f : HalfSpace) → Over earlier boxed → Over (f ∷ earlier) (f ∷ boxed)
+pub over_more : {earlier boxed : List HalfSpace} (f : HalfSpace) → Over earlier boxed → Over (f ∷ earlier) (f ∷ boxed)
 over_more {earlier} {boxed} f o = record {
   under = each_of_more (λ g. g ∈ (f ∷ boxed)) f earlier here (λ g m. there (o.under g m));
   over = each_of_more (λ g. g ∈ (f ∷ earlier) ⊎ g ∈ cube reach) f boxed (inl here) (λ g m. ⊎_elim (λ i. inl (there i)) (λ i. inr i) (o.over g m));
