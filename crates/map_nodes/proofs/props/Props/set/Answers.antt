@@ -1,0 +1,20 @@
+use Rattle.std.proofs.Common.{◌≡◌, Some, option_map, is_some, ap, ap₂, sym, ◌∙◌}
+use Rattle.map_text.specs.Meaning.{put_property, value_of_key}
+use Rattle.map_nodes.specs.Pairs.{pairs_of, without_key}
+use Rattle.map_text.specs.Spelled.{keys_are_distinct}
+use Rattle.map_nodes.proofs.Distinct.{put_distinct, without_distinct}
+use Rattle.map_nodes.proofs.Copies.{found, is_found, taken_out, inserted, cloned}
+use Rattle.map_nodes.proofs.props.Props.set.Goals as goal
+
+pub returns-in-Ok-clause-ok : goal.returns-in-Ok-clause-ok
+returns-in-Ok-clause-ok c =
+    let es = c.self.inside.pairs.entries in
+    ap pairs_of c.in-Ok.ensures.entries ∙ inserted es c.in_ok-own_key.own_key c.in_ok-own_value.own_value
+    ∙ ap₂ (λ k v. put_property k v (pairs_of es)) c.in_ok-own_key.ensures.items c.in_ok-own_value.ensures.items
+    ∙ ap (put_property c.args.key.now c.args.value.now) c.self.view_is
+
+pub invariant_of-self : goal.invariant_of-self
+invariant_of-self c =
+    let es = c.self.inside.pairs.entries in
+    ap keys_are_distinct (ap pairs_of c.in-Ok.ensures.entries ∙ inserted es c.in_ok-own_key.own_key c.in_ok-own_value.own_value)
+    ∙ put_distinct c.in_ok-own_key.own_key.items c.in_ok-own_value.own_value.items (pairs_of es) c.self.invariant

@@ -1,0 +1,5 @@
+pub mod Motions
+pub mod Seen
+pub mod Pairs
+pub mod Lists
+pub mod Nodes
