@@ -1,6 +1,6 @@
 //! The tokens of a text, asked for one after another.
 
-ghost use Rattle.std.specs.Prelude.{◌≡◌, ◌+◌, ◌-◌, ◌^◌, ◌<◌, ◌≤◌, ◌↔◌, ◌∷◌, [], IsTrue, IfOk, IfErr, IfSome, MatchOption, MatchResult, length};
+ghost use Rattle.std.specs.Prelude.{◌≡◌, ◌+◌, ◌-◌, ◌^◌, ◌<◌, ◌≤◌, ◌↔◌, ◌∷◌, [], IsTrue, IfOk, IfErr, IfSome, MatchOption, MatchResult, length, option_map, slice_get};
 ghost use Rattle.map_lex.specs.Cut.{begins_word};
 ghost use Rattle.map_lex.specs.TokenList.{TokenList, tokens_left, cut_off, put_first, no_more, stopped, value_of, without_mark, token_list, AreTokensOf};
 
@@ -57,6 +57,19 @@ impl<'a> Tokens<'a> {
             line: 1,
         };
         Tokens { place, fault: None }
+    }
+
+    /// The next token, if there is one. It is left.
+    pub fn peek(&self) -> Option<Token<'a>>
+        ensures { option_map value_of result ≡ slice_get self.now.tokens 0 }
+    {
+        if self.fault.is_some() {
+            return None;
+        }
+        match first_token(self.place) {
+            Ok(Some((token, _))) => Some(token),
+            Ok(None) | Err(_) => None,
+        }
     }
 
     /// The next token, or `None` where blanks and comments alone are left.
@@ -143,7 +156,8 @@ fn word(text: &[u8], line: u32) -> Result<(Token<'_>, &[u8]), LexFault>
     Ok((token, rest))
 }
 
-// The quoted token whose bytes begin here, behind its quote, and what follows it.
+// The quoted token whose bytes begin here, behind its quote, and what follows it. Apart from words, so that these stay short.
+#[inline(never)]
 fn quoted(text: &[u8], line: u32) -> Result<(Token<'_>, &[u8]), LexFault>
     ensures left { tokens_left line (34 ∷ text.now) ≡ cut_off line result }
     ensures no_longer { IfOk result (λ cut. length cut.1.now ≤ length text.now) }

@@ -57,7 +57,8 @@ fn past_blanks(place: Place<'_>) -> Place<'_>
     Place { rest: &[], line }
 }
 
-// What follows a comment, given the bytes behind its `//`.
+// What follows a comment, given the bytes behind its `//`. Apart from blanks, so that these stay short.
+#[inline(never)]
 fn past_comment(comment: &[u8], line: u32) -> Result<&[u8], LexFault>
     ensures left { MatchResult result
         (λ rest. tokens_left line (47 ∷ 47 ∷ comment.now) ≡ tokens_left line rest.now)

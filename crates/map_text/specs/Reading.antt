@@ -1,11 +1,10 @@
 -- A reader in the middle of a map text, and what it means that it has read a part of it. Only the contracts of the reader's inner
 -- functions speak of it: no promise of `read_map` rests on it.
-use Rattle.std.specs.Prelude.{◌≡◌, ◌≢◌, ℕ, Bool, true, false, IsTrue, List, ◌++◌, map, slice_get, Option, None, Some, Result, Ok, Err}
+use Rattle.std.specs.Prelude.{◌≡◌, ◌≢◌, ℕ, Bool, true, false, IsTrue, List, ◌++◌, map, slice_get, Option, None, Some}
 use Rattle.std.specs.Option.{option_map_or}
 use Rattle.std.specs.List.{list_all}
-use Rattle.map_lex.specs.declared.lexer.LexFault.{LexFault}
 use Rattle.map_lex.specs.declared.lexer.Token.{Token}
-use Rattle.map_lex.specs.TokenList.{TokenValue, TokenList, put_first, no_more, stopped, value_of}
+use Rattle.map_lex.specs.TokenList.{TokenValue, TokenList, put_first, no_more, value_of}
 use Rattle.uv_lock.specs.declared.texture.Format.{Format}
 use Rattle.map_text.specs.declared.read_fault.ReadFault.{ReadFault}
 use Rattle.map_text.specs.declared.read_fault.ReadFault.TheVariants.{Memory}
@@ -18,12 +17,6 @@ pub record ReaderState : Type 0 where
   pub last : ℕ
   pub first : Option Format
   pub left : TokenList
-
--- The tokens of a list, where its first one is held apart, or in its place what ends the list.
-abbrev pub with_front : Result (Option Token) LexFault → TokenList → TokenList
-with_front (Ok (Some token)) behind = put_first (value_of token) behind
-with_front (Ok None) behind = no_more
-with_front (Err fault) behind = stopped fault
 
 -- How reading goes on from here, with these places awaited.
 abbrev pub reads_on : ReaderState → List Awaited → Outcome

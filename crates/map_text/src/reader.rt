@@ -9,7 +9,7 @@ ghost use Rattle.map_text.specs.Refusals.{Awaited, is_bracket, last_line, mark};
 ghost use Rattle.map_text.specs.Reading.{IsFound, IsNext, IsRefused, Passes, allows, is_inner};
 
 use crate::read_fault::{ReadFault, What};
-use map_lex::{LexFault, Token, Tokens};
+use map_lex::{Token, Tokens};
 use std::marker::Model;
 use uv_lock::Format;
 
@@ -17,21 +17,18 @@ use uv_lock::Format;
 #[derive(Drop)]
 pub(crate) struct Reader<'a> {
     text: &'a [u8],
-    // The next token, or the end of the text or its fault in its place.
-    front: Result<Option<Token<'a>>, LexFault>,
-    // The tokens behind that one.
-    behind: Tokens<'a>,
+    tokens: Tokens<'a>,
     format: Option<Format>,
 }
 
 impl<'a> Model for Reader<'a> {
     ghost use Rattle.std.specs.Prelude.{◌^◌, ◌<◌, ◌-◌, length};
     ghost use Rattle.map_text.specs.Refusals.{last_line};
-    ghost use Rattle.map_text.specs.Reading.{IsRefused, ReaderState, with_front};
+    ghost use Rattle.map_text.specs.Reading.{IsRefused, ReaderState};
 
     ghost Value = { ReaderState };
 
-    ghost view = { λ r. record { last = last_line r.text.now; first = r.format; left = with_front r.front r.behind } };
+    ghost view = { λ r. record { last = last_line r.text.now; first = r.format; left = r.tokens } };
 
     ghost invariant = { λ r. length r.text.now < 2 ^ 32 - 1 };
 }
@@ -51,11 +48,9 @@ impl<'a> Reader<'a> {
         ensures state { result ≡ record { last = last_line text.now; first = None; left = token_list text.now } }
         ensures count { length result.left.tokens ≤ length text.now }
     {
-        let mut behind = Tokens::new(text);
         Reader {
             text,
-            front: behind.next(),
-            behind,
+            tokens: Tokens::new(text),
             format: None,
         }
     }
@@ -71,10 +66,7 @@ impl<'a> Reader<'a> {
     pub(crate) fn peek(&self) -> Option<Token<'a>>
         ensures { option_map value_of result ≡ slice_get self.now.left.tokens 0 }
     {
-        match self.front {
-            Ok(token) => token,
-            Err(_) => None,
-        }
+        self.tokens.peek()
     }
 
     /// The next token, where one may be missing.
@@ -82,11 +74,7 @@ impl<'a> Reader<'a> {
         ensures token { IfOk result (λ found. IsFound self.old found self.new) }
         ensures fault { IfErr result (λ why. (places : List Awaited) (place : Awaited) → IsRefused self.old (place ∷ places) why) }
     {
-        let token = self.front?;
-        if token.is_some() {
-            self.front = self.behind.next();
-        }
-        Ok(token)
+        Ok(self.tokens.next()?)
     }
 
     /// The next token, inside an entity.
