@@ -7,6 +7,7 @@ import map_text
 import planes
 import textures
 from cases import NoCase, behind, spelled, unspelled, with_line
+from line_answers import script_line
 from refusals import MapRefused
 
 
@@ -135,6 +136,21 @@ def solid(case):
     return found
 
 
+def hull(case, row):
+    points = triples(integers(row.replace(b'%', b'')))
+    distinct = brushes.distinct(points)
+    if len(distinct) > 512:
+        return [b'= TooManyPoints(%d)' % len(distinct)]
+    if not brushes.spans_space(distinct):
+        return [b'= NoVolume']
+    facets = brushes.facets(distinct)
+    if len(facets) > 128:
+        return [b'= TooManyFaces(%d)' % len(facets)]
+    if any(abs(part) > planes.WORLD for point in distinct for part in point):
+        return [b'= OutOfWorld']
+    return [b'= ' + str([[points.index(distinct[k]) for k in facet] for facet in facets]).encode()]
+
+
 # Tokens and map texts
 
 def refusal(fault):
@@ -220,7 +236,7 @@ def cuts(case):
 # Words and arenas
 
 COMMANDS = (b'box hull delete copy move turn flip clip subtract intersect merge hollow vertex snap material tex lock uv convert entity set '
-            b'unset tie untie layer freeze thaw group ungroup into link unlink protect unprotect undo redo show tree').split()
+            b'unset tie untie layer freeze thaw group ungroup into link unlink protect unprotect undo redo show tree pick touching').split()
 FILE_KEYS = (b'_tb_type _tb_name _tb_id _tb_layer _tb_group _tb_layer_locked _tb_linked_group_id _tb_transformation '
              b'_tb_protected_properties mapversion').split()
 
@@ -261,8 +277,8 @@ def arena(case):
 # What a row of a table asks, and what a whole case asks, by the kind of the case
 ROWS = {b'millionths': count_of(6, b'Micro'), b'billionths': count_of(9, b'Nano'), b'trillionths': count_of(12, b'Pico'),
         b'whole': whole, b'wide': wide, b'decimals': decimal, b'quotients': quotient, b'divisors': divisor,
-        b'planes': plane, b'half-spaces': same, b'vertices': vertex, b'tokens': tokens, b'maps': part, b'lines': line,
-        b'formats': form, b'faces': judged, b'three': three,
+        b'planes': plane, b'hulls': hull, b'half-spaces': same, b'vertices': vertex, b'tokens': tokens, b'maps': part, b'lines': line,
+        b'script-lines': script_line, b'formats': form, b'faces': judged, b'three': three,
         b'commands': lambda case, row: place(COMMANDS, unspelled(row)),
         b'file-keys': lambda case, row: place(FILE_KEYS, unspelled(row)),
         b'words': lambda case, row: [b'= true' if len(unspelled(row)) <= 32 else b'= false']}

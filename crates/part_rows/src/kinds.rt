@@ -1,7 +1,8 @@
 //! The kinds of cases.
 
-use crate::{arenas, documents, maps, numbers, planes, solids, tokens, vertices, words};
+use crate::{arenas, documents, hulls, maps, numbers, planes, solids, tokens, vertices, words};
 use case_text::{Answers, Case, CaseFault, Texts, spelled_bytes};
+use cmd_text::read_line;
 use fixed_num::{read_micro, read_nano, read_pico, read_wide};
 use key_table::{Word, command_keys, file_keys};
 use std::alloc::Global;
@@ -22,6 +23,7 @@ enum Table {
     Planes,
     HalfSpaces,
     Vertices,
+    Hulls,
     // What tokens texts are cut into, and which formats they have.
     Tokens,
     Formats,
@@ -29,6 +31,8 @@ enum Table {
     Maps,
     Lines,
     Faces,
+    // What commands lines of scripts read as.
+    ScriptLines,
     // The places of command words, of the keys of a file, and of words in tables of three.
     Commands,
     FileKeys,
@@ -51,11 +55,13 @@ impl Table {
             "planes" => Some(Table::Planes),
             "half-spaces" => Some(Table::HalfSpaces),
             "vertices" => Some(Table::Vertices),
+            "hulls" => Some(Table::Hulls),
             "tokens" => Some(Table::Tokens),
             "formats" => Some(Table::Formats),
             "maps" => Some(Table::Maps),
             "lines" => Some(Table::Lines),
             "faces" => Some(Table::Faces),
+            "script-lines" => Some(Table::ScriptLines),
             "commands" => Some(Table::Commands),
             "file-keys" => Some(Table::FileKeys),
             "three" => Some(Table::Three),
@@ -99,11 +105,13 @@ fn add_answer(
         Table::Planes => planes::add_plane(out, row.spelled),
         Table::HalfSpaces => planes::add_same(out, row.spelled),
         Table::Vertices => vertices::add_vertex(out, row.spelled),
+        Table::Hulls => hulls::add_hull(alloc, out, row.spelled),
         Table::Tokens => tokens::add_tokens(out, row.bytes),
         Table::Formats => documents::add_format(alloc, out, row.bytes),
         Table::Maps => maps::add_part(alloc, case, texts, out, row.bytes),
         Table::Lines => maps::add_changed(alloc, case, texts, out, row.spelled),
         Table::Faces => maps::add_judged(alloc, texts, out, row.spelled),
+        Table::ScriptLines => Ok(writeln!(out, "= {:?}", read_line(alloc, row.bytes))?),
         Table::Commands => Ok(writeln!(out, "= {:?}", command_keys().find(row.bytes))?),
         Table::FileKeys => Ok(writeln!(out, "= {:?}", file_keys().find(row.bytes))?),
         Table::Three => words::add_three(alloc, out, row.spelled),

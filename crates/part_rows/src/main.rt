@@ -6,6 +6,7 @@
 
 mod arenas;
 mod documents;
+mod hulls;
 mod kinds;
 mod maps;
 mod numbers;
