@@ -1,0 +1,9 @@
+pub mod Changes
+pub mod Exchanges
+pub mod Places
+pub mod Empty
+pub mod Above
+pub mod Turns
+pub mod Walks
+pub mod Tables
+pub mod Tightening
