@@ -236,7 +236,7 @@ module _ {V : ℕ → Option Homogeneous} (slots : List (Option HalfEdge)) {Fc :
   ends : ℕ → Ends
   ends e = record { first = from_point L e; second = to_point L e }
 
-  is_edge : (e : ℕ) → HasEdge L e → IsEdge F (from_point L e) (to_point L e)
+  pub is_edge : (e : ℕ) → HasEdge L e → IsEdge F (from_point L e) (to_point L e)
   is_edge e h = let x = sh.stands.edge e h in record {
     p_vertex = x.a_vertex;
     q_vertex = x.b_vertex;

@@ -34,3 +34,5 @@ pub mod Reading
 pub mod Copying
 pub mod Ordered
 pub mod CutTrims
+pub mod Tagging
+pub mod Whole

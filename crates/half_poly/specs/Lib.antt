@@ -18,3 +18,4 @@ pub mod Readings
 pub mod Tags
 pub mod Edges
 pub mod Trims
+pub mod Polyhedron

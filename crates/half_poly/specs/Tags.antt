@@ -1,15 +1,23 @@
 -- Faces by their tags.
-use Rattle.std.specs.Prelude.{◌≡◌, ℕ, ◌+◌, ◌^◌, List, [], ◌∷◌, if◌then◌else◌, nat_lt, nat_eq, slice_get, Option, Some, None, MatchOption}
+use Rattle.std.specs.Prelude.{◌≡◌, ℕ, suc, ◌+◌, ◌^◌, List, [], ◌∷◌, map, if◌then◌else◌, nat_lt, nat_eq, slice_get, Option, Some, None, MatchOption}
+use Rattle.std.specs.Option.{option_map, option_and_then}
 use Rattle.algebra.specs.Space.{Homogeneous}
 use Rattle.solid_laws.specs.Names.{AreVertices}
 use Rattle.solid_laws.specs.FaceLoop.{IsNumberedLoop}
 use Rattle.half_poly.specs.declared.links.Face.{Face}
 use Rattle.half_poly.specs.Shapes.{Tagged, bounds, solid_of}
 
+-- The place of the first of these tags that is this one.
+abbrev pub tag_place : List ℕ → ℕ → Option ℕ
+tag_place [] tag = None
+tag_place (t ∷ tags) tag = if nat_eq t tag then Some 0 else option_map suc (tag_place tags tag)
+
+abbrev pub tags_of : List Tagged → List ℕ
+tags_of sides = map (λ s. s.tag) sides
+
 -- The side with this tag.
 abbrev pub with_tag : List Tagged → ℕ → Option Tagged
-with_tag [] tag = None
-with_tag (s ∷ sides) tag = if nat_eq s.tag tag then Some s else with_tag sides tag
+with_tag sides tag = option_and_then (λ k. slice_get sides k) (tag_place (tags_of sides) tag)
 
 -- The number of the vertex at place k of the loop of the face with this tag, or none past its end or where there is no such face.
 pub record HasTaggedLoopVertex (sides : List Tagged) (tag k : ℕ) (number : Option ℕ) : Type 0 where

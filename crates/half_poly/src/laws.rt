@@ -2,6 +2,7 @@
 
 ghost use Rattle.half_poly.specs.Phases.{PhasesLaw};
 ghost use Rattle.half_poly.specs.Shapes.{HalvedLaw};
+ghost use Rattle.half_poly.specs.Polyhedron.{PolyhedronLaw};
 ghost use Rattle.half_poly.specs.Trims.{CubeTrimsLaw, CutTrimsLaw, GoneTrimsLaw};
 
 /// The passes of a cut are a cut of the arenas.
@@ -27,4 +28,9 @@ pub fn cut_trims_law()
 /// A cut that is answered `Gone` would leave nothing inside.
 pub fn gone_trims_law()
     ensures { GoneTrimsLaw }
+{}
+
+/// The arenas of each polyhedron hold the vertices, edges and faces of its planes, each once, and the links go round each face.
+pub fn polyhedron_law()
+    ensures { PolyhedronLaw }
 {}

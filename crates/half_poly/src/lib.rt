@@ -28,5 +28,7 @@ mod tags;
 mod taking;
 
 pub use cut::Cut;
-pub use laws::{cube_trims_law, cut_trims_law, gone_trims_law, halved_law, phases_law};
+pub use laws::{
+    cube_trims_law, cut_trims_law, gone_trims_law, halved_law, phases_law, polyhedron_law,
+};
 pub use poly::Poly;

@@ -1,6 +1,6 @@
 //! Polyhedra.
 
-ghost use Rattle.std.specs.Prelude.{◌≡◌, ◌≤◌, ◌<◌, ◌+◌, ◌^◌, ℕ, map, length, slice_get, IfOk, OnErr};
+ghost use Rattle.std.specs.Prelude.{◌≡◌, ◌≤◌, ◌<◌, ◌+◌, ◌^◌, ◌↔◌, ℕ, false, map, length, slice_get, IfOk, OnErr, IsTrue};
 ghost use Rattle.std.specs.Option.{option_and_then, option_map};
 ghost use Rattle.algebra.specs.Members.{Every};
 ghost use Rattle.half_arena.specs.Slots.{contents};
@@ -10,7 +10,8 @@ ghost use Rattle.poly_laws.specs.Counts.{AmongVertices, AmongEdges};
 ghost use Rattle.half_poly.specs.Shapes.{IsShape, Says, DistinctTags, sides_of, solid_of};
 ghost use Rattle.half_poly.specs.Edges.{HasEdgeCount};
 ghost use Rattle.half_poly.specs.Parts.{SaysPart};
-ghost use Rattle.half_poly.specs.Tags.{with_base};
+ghost use Rattle.half_poly.specs.Polyhedron.{HasPolyhedron};
+ghost use Rattle.half_poly.specs.Tags.{HasTaggedLoopVertex, with_base};
 
 use crate::cut::Cut;
 use crate::judging::{has_behind, has_front};
@@ -19,7 +20,7 @@ use crate::loops::loops_of;
 use crate::names::named;
 use crate::shape::{Shape, copy_shape, halved};
 use crate::signs::signs_of;
-use crate::tags::retag_all;
+use crate::tags::{face_with, retag_all};
 use exact_geom::{HVertex, Plane, Steps};
 use half_arena::{FaceId, VertId};
 use std::alloc::{AllocError, Global};
@@ -140,9 +141,11 @@ impl Poly {
         }
     }
 
-    /// How many faces there are.
+    /// How many faces there are. The polyhedron's arenas hold each vertex and each face once, and each edge as two half-edges,
+    /// one in each direction.
     pub fn faces(&self) -> usize
         ensures count { result ≡ length self.now }
+        ensures polyhedron { HasPolyhedron self.now }
     {
         self.shape.order.len()
     }
@@ -189,6 +192,24 @@ impl Poly {
         ensures vertex { HasLoopVertex (solid_of self.now) face k result }
     {
         number_at(&self.loops, face, k)
+    }
+
+    /// Whether a face has this tag.
+    pub fn has_tag(&self, tag: u32) -> bool
+        ensures tag { IsTrue result ↔ ¬ (Every (λ s. ¬ (s.tag ≡ tag)) self.now) }
+        ensures new { result ≡ false → Every (λ s. ¬ (s.tag ≡ tag)) self.now }
+    {
+        face_with(&self.shape.faces, &self.shape.order, tag).is_some()
+    }
+
+    /// The same of the face with this tag. `None` exactly past the end, or where no face has the tag.
+    pub fn loop_vertex(&self, tag: u32, k: usize) -> Option<usize>
+        ensures vertex { HasTaggedLoopVertex self.now tag k result }
+    {
+        match face_with(&self.shape.faces, &self.shape.order, tag) {
+            Some(face) => number_at(&self.loops, face, k),
+            None => None,
+        }
     }
 
     /// Adds a number to each tag below 2^31. It takes no memory.

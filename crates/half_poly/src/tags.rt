@@ -1,17 +1,43 @@
 //! Faces by their tags.
 
-ghost use Rattle.std.specs.Prelude.{◌≡◌, ◌≢◌, ◌<◌, ◌+◌, ◌^◌, ℕ, Some};
+ghost use Rattle.std.specs.Prelude.{◌≡◌, ◌≢◌, ◌<◌, ◌+◌, ◌^◌, ℕ, Some, IsSome, nat_eq};
+ghost use Rattle.algebra.specs.Members.{◌∈◌};
+ghost use Rattle.half_arena.specs.declared.ids.FaceId.{FaceId};
 ghost use Rattle.std.specs.Option.{option_map};
 ghost use Rattle.half_arena.specs.Slots.{contents};
 ghost use Rattle.half_poly.specs.declared.links.Face.{Face};
 ghost use Rattle.half_poly.specs.Passes.{Passed};
-ghost use Rattle.half_poly.specs.Tags.{retagged};
+ghost use Rattle.half_poly.specs.Shapes.{sides_of};
+ghost use Rattle.half_poly.specs.Tags.{retagged, tag_place, tags_of};
 
 use crate::links::{Face, Faces, write};
 use half_arena::{FaceId, SlotId};
 
 // Tags from here on stay as they are.
 const TAG_LIMIT: u32 = 0x8000_0000;
+
+// Whether the face has this tag.
+fn has_tag(faces: &Faces, face: FaceId, tag: u32) -> bool
+    ensures { (f : Face) → contents faces.now face.0 ≡ Some f → result ≡ nat_eq f.tag tag }
+{
+    match faces.get(face) {
+        Some(found) => found.tag == tag,
+        None => false,
+    }
+}
+
+/// The number of the face with this tag, if there is one.
+pub(crate) fn face_with(faces: &Faces, order: &[FaceId], tag: u32) -> Option<usize>
+    requires listed { (id : FaceId) → id ∈ order.now → IsSome (contents faces.now id.0) }
+    ensures { result ≡ tag_place (tags_of (sides_of (contents faces.now) order.now)) tag }
+{
+    for number in 0..order.len() {
+        if has_tag(faces, order[number], tag) {
+            return Some(number);
+        }
+    }
+    None
+}
 
 // The face with a number added to its tag, if that is below 2^31.
 fn retagged(face: Face, base: u32) -> Face
