@@ -1,8 +1,8 @@
 -- A polyhedron over equal arenas, and over arenas with other tags.
-use Rattle.std.proofs.Common.{◌≡◌, ℕ, ◌+◌, ◌^◌, ◌<◌, List, map, Option, Some, IsSome, refl, sym, ap, subst, ◌∙◌}
+use Rattle.std.proofs.Common.{◌≡◌, ℕ, ◌+◌, ◌^◌, ◌<◌, List, map, Option, Some, refl, sym, ap, subst, ◌∙◌}
 use Rattle.std.specs.Option.{option_map}
-use Rattle.algebra.specs.Members.{◌∈◌, Every}
-use Rattle.algebra.specs.Space.{Homogeneous, HalfSpace}
+use Rattle.algebra.specs.Members.{Every}
+use Rattle.algebra.specs.Space.{Homogeneous}
 use Rattle.algebra.proofs.Members.{member_at}
 use Rattle.half_arena.specs.Slots.{Slots, contents, slot_at}
 use Rattle.half_arena.specs.declared.ids.FaceId.{FaceId}
@@ -13,7 +13,7 @@ use Rattle.half_poly.specs.declared.shape.Shape.{Shape}
 use Rattle.half_poly.specs.Shapes.{Tagged, solid_of, sides_of, IsShape, DistinctTags}
 use Rattle.half_poly.specs.Names.{point_at, AreNamed}
 use Rattle.half_poly.specs.Rounds.{AreLoops}
-use Rattle.half_poly.specs.Readings.{faces_of, points_of, IsSameShape, IsPoly}
+use Rattle.half_poly.specs.Readings.{points_of, IsSameShape, IsPoly}
 use Rattle.half_poly.specs.Tags.{with_base, retagged}
 use Rattle.half_poly.proofs.Making.{is_some_of}
 use Rattle.half_poly.proofs.Naming.{number_of, id_at, no_face}

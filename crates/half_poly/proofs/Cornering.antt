@@ -1,5 +1,5 @@
 -- The corners and their order.
-use Rattle.std.proofs.Common.{◌≡◌, ◌≢◌, ℕ, zero, suc, ◌+◌, ◌<◌, ◌≤◌, Bool, true, false, eqb, nat_lt, nat_eq, nat_cmp, is_lt, Less, Equal, Greater, add-one, List, [], ◌∷◌, ◌++◌, length, length-append, get_or, map, Option, Some, None, IsSome, is_some, refl, sym, ap, subst, ◌∙◌, arith, inl, inr, ◌⊎◌, ⊎_elim}
+use Rattle.std.proofs.Common.{◌≡◌, ◌≢◌, ℕ, zero, suc, ◌+◌, ◌<◌, ◌≤◌, Bool, true, false, eqb, nat_lt, nat_eq, nat_cmp, is_lt, Less, Equal, Greater, add-one, List, [], ◌∷◌, ◌++◌, length, length-append, get_or, map, Option, Some, IsSome, refl, sym, ap, subst, ◌∙◌, arith, inl, inr, ◌⊎◌, ⊎_elim}
 use Rattle.std.specs.List.{IsDistinct, AllByRecursion}
 use Rattle.std.specs.Ordering.{ordering_then}
 use Rattle.std.specs.List.Sorted.{IsPermutation, IsSorted}
@@ -8,15 +8,15 @@ use Rattle.std.proofs.lemmas.Bool.Decides.{nat_tests}
 use Rattle.std.proofs.lemmas.List.{length-map, map-append, get_or_append_left, get_or_push}
 use Rattle.std.proofs.lemmas.List.Sorted.{IsPermutation-map, IsPermutation-sym, All-permutation}
 use Rattle.std.proofs.lemmas.Map.Keys.{IsDistinct-IsPermutation}
-use Rattle.algebra.specs.Members.{◌∈◌, here, there}
+use Rattle.algebra.specs.Members.{◌∈◌}
 use Rattle.algebra.proofs.Members.{member_at, at_of_member}
 use Rattle.algebra.specs.Space.{Homogeneous}
 use Rattle.half_poly.specs.declared.names.Name.{Name}
 use Rattle.half_poly.specs.declared.names.Corner.{Corner}
 use Rattle.half_poly.specs.Places.{AreDistinct}
 use Rattle.half_poly.specs.Names.{no_name, AreLeast, with_number, AreCorners, NotBefore, InOrder}
-use Rattle.half_poly.proofs.Making.{one_value, same_value, is_some_of}
-use Rattle.half_poly.proofs.Listed.{get_map, image, source}
+use Rattle.half_poly.proofs.Making.{is_some_of}
+use Rattle.half_poly.proofs.Listed.{get_map}
 use Rattle.half_poly.proofs.Chain.{at_end, in_front, split_end}
 use Rattle.half_poly.proofs.Least.{OneMore, name, least_first, least_second, least_third, least_same}
 

@@ -1,10 +1,10 @@
 -- The corners of the cube, by the walls that they lie on.
-use Rattle.std.proofs.Common.{◌≡◌, ℕ, zero, suc, ◌+◌, ◌/◌, ◌%◌, ◌<◌, ◌≤◌, lit<, get_or, Option, Some, None, IsNone, IfSome, refl, sym, ◌∙◌, ap, arith, ℤ, pos, negsuc, ◌+ℤ◌, ◌-ℤ◌, ◌*ℤ◌, ◌<ℤ◌, ◌≤ℤ◌, unsigned_abs}
+use Rattle.std.proofs.Common.{◌≡◌, ℕ, zero, suc, ◌+◌, ◌/◌, ◌%◌, ◌<◌, ◌≤◌, lit<, get_or, Option, Some, None, IsNone, IfSome, refl, ap, arith, ℤ, pos, negsuc, ◌+ℤ◌, ◌-ℤ◌, ◌*ℤ◌, ◌<ℤ◌, ◌≤ℤ◌}
 use Rattle.std.proofs.lemmas.Int.{ints}
 use Rattle.std.specs.Int.{◌∣◌}
 use Rattle.std.proofs.lemmas.Nat.Gcd.{le_of_dvd}
 use Rattle.std.proofs.Math.Nat.{eq-zero_of_zero-dvd}
-use Rattle.algebra.specs.Space.{Homogeneous, HalfSpace, SamePoint, side, dot, cross, minus, through, det}
+use Rattle.algebra.specs.Space.{Homogeneous, SamePoint, side, dot, cross, minus, through, det}
 use Rattle.exact_geom.specs.Planes.{ThreePoints, half_space}
 use Rattle.exact_geom.specs.Vertices.{IsVertexOf, IsReduced}
 use Rattle.exact_geom.proofs.Unique.{one_form}

@@ -1,5 +1,5 @@
 -- The tags of the cube's faces are distinct.
-use Rattle.std.proofs.Common.{◌≡◌, ℕ, ◌+◌, false, nat_eq, List, [], ◌∷◌, refl, arith}
+use Rattle.std.proofs.Common.{◌≡◌, false, nat_eq, List, [], ◌∷◌, refl, arith}
 use Rattle.std.proofs.lemmas.Bool.Decides.{nat_tests}
 use Rattle.algebra.specs.Members.{Every}
 use Rattle.algebra.proofs.Members.{each_of_more, each_of_none}

@@ -1,11 +1,10 @@
 -- The arenas of the cube.
-use Rattle.std.proofs.Common.{◌≡◌, ℕ, zero, suc, ◌+◌, ◌*◌, ◌%◌, ◌<◌, ◌≤◌, Bool, true, ltb, List, [], ◌∷◌, length, get_or, map, Option, Some, None, IsSome, is_some, refl, sym, ◌∙◌, ap, subst, arith, inl, inr, ◌⊎◌, ⊎_elim, ℤ, pos, negsuc, ◌<ℤ◌, ◌≤ℤ◌}
+use Rattle.std.proofs.Common.{◌≡◌, ℕ, zero, suc, ◌*◌, ◌%◌, ◌<◌, List, [], ◌∷◌, length, get_or, map, Option, Some, None, IsSome, refl, sym, ◌∙◌, ap, subst, arith, ⊎_elim}
 use Rattle.std.proofs.lemmas.Int.{ints}
 use Rattle.std.proofs.lemmas.List.{length-map}
 use Rattle.std.specs.Option.{option_map_or}
-use Rattle.algebra.specs.Members.{◌∈◌}
 use Rattle.algebra.proofs.Members.{at_of_member}
-use Rattle.algebra.specs.Space.{Homogeneous, HalfSpace, side, dot, cross, minus, through}
+use Rattle.algebra.specs.Space.{Homogeneous, dot, cross, minus, through}
 use Rattle.exact_geom.specs.Planes.{half_space}
 use Rattle.algebra.specs.World.{reach}
 use Rattle.trim_laws.specs.Valid.{HasInside}
@@ -16,8 +15,7 @@ use Rattle.half_arena.specs.Slots.{Slots, contents, put}
 use Rattle.half_arena.specs.declared.ids.VertId.{VertId}
 use Rattle.half_arena.specs.declared.ids.EdgeId.{EdgeId}
 use Rattle.half_arena.specs.declared.ids.FaceId.{FaceId}
-use Rattle.poly_laws.specs.Links.{Links, HasVertex, HasEdge, HasFace}
-use Rattle.poly_laws.specs.Stands.{StandsFor}
+use Rattle.poly_laws.specs.Links.{HasEdge, HasFace}
 use Rattle.cube_laws.specs.CubeLinks.{corners, centre, flat, origins, faces, twins, nexts, cube_links}
 use Rattle.cube_laws.specs.Numbered.{Numbered}
 use Rattle.cube_laws.proofs.Tests.{is_below, below_is}
@@ -26,11 +24,11 @@ use Rattle.cube_laws.proofs.Numbers.{numbered}
 use Rattle.half_poly.specs.declared.links.HalfEdge.{HalfEdge}
 use Rattle.half_poly.specs.declared.links.Face.{Face}
 use Rattle.half_poly.specs.Arenas.{links, nowhere, no_plane}
-use Rattle.half_poly.specs.Puts.{IsPlace, PutBelow, WrittenBelow}
-use Rattle.half_poly.specs.Shapes.{Tagged, bounds, solid_of, side_at, sides_of, IsShape}
-use Rattle.half_poly.specs.Walls.{wall_at, wall_tag, cube_face, unbegun_walls, cube_edge, cube_wall, cube_side, cube_sides}
+use Rattle.half_poly.specs.Puts.{PutBelow, WrittenBelow}
+use Rattle.half_poly.specs.Shapes.{solid_of, side_at, sides_of, IsShape}
+use Rattle.half_poly.specs.Walls.{wall_at, cube_face, unbegun_walls, cube_edge, cube_wall, cube_side, cube_sides}
 use Rattle.half_poly.proofs.Making.{one_value, is_some_of}
-use Rattle.half_poly.proofs.ArenaReads.{There, there, read, live_is}
+use Rattle.half_poly.proofs.ArenaReads.{there, read, live_is}
 use Rattle.half_poly.proofs.Shaping.{side_is}
 
 by_6 : (P : ℕ → Type 0) → P 0 → P 1 → P 2 → P 3 → P 4 → P 5 → (n : ℕ) → n < 6 → P n

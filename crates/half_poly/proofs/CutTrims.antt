@@ -1,29 +1,25 @@
 -- What a list of cuts leaves.
-use Rattle.std.proofs.Common.{◌≡◌, List, [], ◌∷◌, ◌++◌, refl, sym, ap, subst, ◌∙◌, pos, ◌<ℤ◌, ◌≤ℤ◌, arith}
+use Rattle.std.proofs.Common.{◌≡◌, List, [], ◌∷◌, ◌++◌, refl, sym, subst, pos, ◌<ℤ◌, arith}
 use Rattle.std.proofs.lemmas.Int.{ints}
 use Rattle.std.proofs.lemmas.List.{map-append}
-use Rattle.algebra.specs.Members.{◌∈◌, here}
-use Rattle.algebra.specs.Space.{Homogeneous, HalfSpace, dot, side}
+use Rattle.algebra.specs.Members.{◌∈◌}
+use Rattle.algebra.specs.Space.{HalfSpace, dot}
 use Rattle.algebra.specs.World.{reach}
 use Rattle.algebra.proofs.Members.{each_of_more, each_of_none}
-use Rattle.trim_laws.specs.Solid.{IsInside, Proper}
+use Rattle.trim_laws.specs.Solid.{IsInside}
 use Rattle.trim_laws.specs.Valid.{HasInside}
-use Rattle.trim_laws.specs.Trim.{Trim, TrimFaces}
+use Rattle.trim_laws.specs.Trim.{TrimFaces}
 use Rattle.trim_laws.proofs.Trimmed.{trimmed_in}
-use Rattle.vertex_laws.specs.Vertex.{IsVertex}
 use Rattle.vertex_laws.proofs.TrimVertex.{trim_vertex}
-use Rattle.vertex_laws.proofs.Cube.{cube_bounded}
 use Rattle.vertex_laws.proofs.CubeValid.{cube_trim}
-use Rattle.vertex_laws.specs.Cube.{cube}
 use Rattle.cut_laws.specs.Cut.{back}
 use Rattle.cut_laws.proofs.Backs.{in_left, in_last}
 use Rattle.cut_laws.proofs.FaceTrims.{trim_add_face, missed_trim_faces}
-use Rattle.poly_laws.specs.Cuts.{CutsOne, TrimsTo}
+use Rattle.poly_laws.specs.Cuts.{TrimsTo}
 use Rattle.poly_laws.proofs.Cuts.{one, cuts_gone}
 use Rattle.cube_laws.proofs.CubeStands.{cube_neat}
-use Rattle.half_poly.specs.declared.cut.Cut.{Cut}
 use Rattle.half_poly.specs.declared.cut.Cut.TheVariants.{Missed, Gone, Halved}
-use Rattle.half_poly.specs.Shapes.{Tagged, bounds, solid_of, Says, DistinctTags, no_sides, one_more_side}
+use Rattle.half_poly.specs.Shapes.{Tagged, bounds, solid_of}
 use Rattle.half_poly.specs.Trims.{StandsForAll, CubeTrimsLaw, CutTrimsLaw, GoneTrimsLaw}
 use Rattle.half_poly.specs.Walls.{cube_sides}
 use Rattle.half_poly.proofs.Saying.{says}

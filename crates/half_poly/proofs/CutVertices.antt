@@ -1,18 +1,13 @@
 -- The vertices and faces before and after a cut.
-use Rattle.std.proofs.Common.{◌≡◌, ◌≢◌, ℕ, ◌<◌, Bool, true, false, not, ◌&&◌, ◌||◌, if◌then◌else◌, Option, Some, None, IsSome, is_some, length, refl, sym, ◌∙◌, ap, arith, inl, inr, ◌⊎◌, ⊎_elim, ℤ, pos, neg_ℤ, ◌<ℤ◌, ◌≤ℤ◌, List}
+use Rattle.std.proofs.Common.{◌≡◌, ℕ, Bool, true, false, ◌&&◌, Option, Some, None, is_some, refl, sym, ◌∙◌, ap, arith, inl, inr, ◌⊎◌, ⊎_elim, pos, neg_ℤ, ◌<ℤ◌, ◌≤ℤ◌, List}
 use Rattle.std.proofs.lemmas.Int.{ints}
-use native.Mathlib.Decide.{ℕ_discrete}
-use Rattle.std.specs.Option.{option_map_or}
-use Rattle.algebra.specs.Space.{Homogeneous, HalfSpace, SamePoint, dot, cross, det, side, way}
+use Rattle.algebra.specs.Space.{Homogeneous, HalfSpace, SamePoint, det, side, way}
 use Rattle.algebra.proofs.Points.{way-on, way-across, mix-on, between-on}
 use Rattle.exact_geom.specs.Sides.{sign_of}
 use Rattle.exact_geom.specs.Planes.{ThreePoints, half_space}
-use Rattle.exact_geom.specs.declared.sign.Sign.{Sign}
 use Rattle.half_arena.specs.declared.ids.VertId.{VertId}
-use Rattle.half_arena.specs.declared.ids.EdgeId.{EdgeId}
 use Rattle.vertex_laws.specs.HalfEdge.{IsHalfEdge}
 use Rattle.vertex_laws.proofs.HalfEdge.{edge_crosses}
-use Rattle.vertex_laws.proofs.Line.{OnLine}
 use Rattle.cut_laws.specs.Cut.{cut_point}
 use Rattle.cut_laws.proofs.Backs.{leans}
 use Rattle.cut_laws.proofs.Alone.{same_on_line}
@@ -20,17 +15,17 @@ use Rattle.half_poly.specs.declared.links.HalfEdge.{HalfEdge}
 use Rattle.half_poly.specs.declared.links.Face.{Face}
 use Rattle.half_poly.specs.Signs.{sign_at}
 use Rattle.half_poly.specs.Ways.{from_sign, to_sign, is_behind}
-use Rattle.half_poly.specs.Made.{is_front, comes_through, Through, MadeAt, vertex_entry, IsMade}
-use Rattle.half_poly.specs.Paired.{begin_at, relinked}
+use Rattle.half_poly.specs.Made.{is_front, comes_through, vertex_entry, IsMade}
+use Rattle.half_poly.specs.Paired.{begin_at}
 use Rattle.half_poly.specs.Taken.{vertex_step}
 use Rattle.half_poly.specs.Arenas.{links, nowhere, no_plane}
 use Rattle.half_poly.specs.Phases.{Tables, Phases, picks}
-use Rattle.half_poly.proofs.Making.{same_value, one_value, is_some_of}
-use Rattle.half_poly.proofs.ArenaReads.{behind_is, behind_of, not_behind_is, not_behind_of, front_is, front_of, not_front_is, not_front_of, There, there, live_is, read, none_or}
+use Rattle.half_poly.proofs.Making.{same_value, one_value}
+use Rattle.half_poly.proofs.ArenaReads.{behind_is, behind_of, front_is, front_of, not_front_is, not_front_of, There, there, live_is, read, none_or}
 use Rattle.half_poly.proofs.CutEdges.{OfEdge, of_edge, origin_is, face_is, twin_is, from_sign_is, to_sign_is, stays_after}
 use Rattle.poly_laws.specs.Links.{Links, HasVertex, HasEdge, HasFace, from_point, to_point, own_plane, other_plane}
 use Rattle.poly_laws.specs.Stands.{StandsFor}
-use Rattle.poly_laws.specs.Cut.{Picks, Stays, Crosses, VertexKind, old_vertex, fresh_vertex}
+use Rattle.poly_laws.specs.Cut.{Stays, Crosses, VertexKind, old_vertex, fresh_vertex}
 
 pub both_true : (x y : Bool) → x ≡ true → y ≡ true → (x && y) ≡ true
 both_true x y q m = rw (q, m) refl

@@ -1,31 +1,30 @@
 -- Two half-edges for each edge.
-use Rattle.std.proofs.Common.{◌≡◌, ◌≢◌, ℕ, zero, suc, ◌+◌, ◌<◌, ◌≤◌, ◌/◌, Bool, true, false, cond, nat_lt, List, [], ◌∷◌, length, get_or, map, Option, Some, None, is_some, refl, sym, ap, subst, ◌∙◌, arith, inl, inr, ◌⊎◌, ⊎_elim, pos, ◌<ℤ◌}
+use Rattle.std.proofs.Common.{◌≡◌, ◌≢◌, ℕ, zero, suc, ◌+◌, ◌<◌, ◌≤◌, ◌/◌, Bool, true, false, cond, nat_lt, List, [], ◌∷◌, length, get_or, map, Option, Some, None, is_some, refl, sym, ap, subst, ◌∙◌, arith, inl, inr, ◌⊎◌, ⊎_elim}
 use Rattle.std.specs.Prelude.{count_by}
 use Rattle.std.specs.Option.{option_map_or}
 use Rattle.std.proofs.lemmas.Bool.Decides.{nat_tests}
 use Rattle.std.proofs.lemmas.List.{length-map}
 use Rattle.std.proofs.lemmas.List.Sums.{sum_by-cons}
 use Rattle.algebra.specs.Members.{◌∈◌, here, there as further}
-use Rattle.algebra.proofs.Members.{member_at, at_of_member}
+use Rattle.algebra.proofs.Members.{member_at}
 use Rattle.algebra.specs.Space.{Homogeneous, HalfSpace, SamePoint}
-use Rattle.algebra.proofs.Points.{same_point_refl, same_point_sym}
+use Rattle.algebra.proofs.Points.{same_point_refl}
 use Rattle.half_arena.specs.Slots.{slot_at}
 use Rattle.half_arena.specs.declared.ids.FaceId.{FaceId}
-use Rattle.vertex_laws.specs.Vertex.{IsVertex, IsEdge}
-use Rattle.vertex_laws.specs.HalfEdge.{IsHalfEdge}
+use Rattle.vertex_laws.specs.Vertex.{IsEdge}
 use Rattle.vertex_laws.proofs.HalfEdge.{edge_crosses, edge_distinct}
 use Rattle.poly_laws.specs.Links.{Links, HasEdge, from_point, to_point}
 use Rattle.poly_laws.specs.Loops.{OneHalfEdge}
 use Rattle.poly_laws.specs.Counts.{Ends, AreEnds}
-use Rattle.poly_laws.proofs.Counting.{For, pigeons}
+use Rattle.poly_laws.proofs.Counting.{pigeons}
 use Rattle.poly_laws.proofs.Round.{one_half_edge}
 use Rattle.half_poly.specs.declared.links.HalfEdge.{HalfEdge}
 use Rattle.half_poly.specs.declared.links.Face.{Face}
 use Rattle.half_poly.specs.Arenas.{links}
 use Rattle.half_poly.specs.Shapes.{solid_of, sides_of, IsShape}
 use Rattle.half_poly.specs.Edges.{HasEdgeCount}
-use Rattle.half_poly.proofs.ArenaReads.{There, there, read, live_is}
-use Rattle.half_poly.proofs.Listed.{Source, source, image, get_map}
+use Rattle.half_poly.proofs.ArenaReads.{there, read, live_is}
+use Rattle.half_poly.proofs.Listed.{source, image, get_map}
 
 -- ---- the places of elements that pass
 abbrev with_first : Bool → List ℕ → List ℕ

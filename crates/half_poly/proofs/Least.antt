@@ -1,5 +1,5 @@
 -- The three least numbers, with one number more.
-use Rattle.std.proofs.Common.{◌≡◌, ℕ, ◌<◌, ◌≤◌, refl, sym, arith, inl, inr, ◌⊎◌, ⊎_elim}
+use Rattle.std.proofs.Common.{◌≡◌, ℕ, ◌<◌, ◌≤◌, refl, arith, inl, inr, ◌⊎◌, ⊎_elim}
 use Rattle.half_poly.specs.declared.names.Name.{Name}
 use Rattle.half_poly.specs.Names.{AreLeast}
 

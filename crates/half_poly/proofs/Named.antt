@@ -1,5 +1,5 @@
 -- The vertices in the order of their names.
-use Rattle.std.proofs.Common.{◌≡◌, ℕ, zero, suc, ◌+◌, ◌<◌, ◌≤◌, List, [], ◌∷◌, length, get_or, map, slice_get, Option, Some, refl, sym, ap, subst, ◌∙◌, arith, inl, inr, ◌⊎◌, ⊎_elim, ℤ, pos, neg_ℤ, ◌<ℤ◌, ◌≤ℤ◌}
+use Rattle.std.proofs.Common.{◌≡◌, ℕ, suc, ◌<◌, ◌≤◌, List, [], ◌∷◌, length, get_or, map, Option, Some, refl, sym, ap, subst, ◌∙◌, arith, inl, inr, ◌⊎◌, ⊎_elim, ℤ, pos, neg_ℤ, ◌<ℤ◌}
 use Rattle.std.proofs.lemmas.Int.{ints}
 use Rattle.std.proofs.lemmas.List.{length-map}
 use Rattle.algebra.specs.Members.{◌∈◌, here, there as further}
@@ -7,12 +7,12 @@ use Rattle.algebra.specs.Space.{Homogeneous, HalfSpace, SamePoint, det, side}
 use Rattle.algebra.proofs.Identities.{det-swap_12}
 use Rattle.algebra.proofs.Orders.{by_sign}
 use Rattle.algebra.proofs.Members.{member_at, at_of_member}
-use Rattle.algebra.proofs.Points.{same_of_three, same_point_sym}
+use Rattle.algebra.proofs.Points.{same_of_three}
 use Rattle.exact_geom.specs.Vertices.{IsReduced}
 use Rattle.exact_geom.proofs.Unique.{one_form}
 use Rattle.half_arena.specs.declared.ids.FaceId.{FaceId}
 use Rattle.half_arena.specs.declared.ids.VertId.{VertId}
-use Rattle.solid_laws.specs.Names.{Triple, Earlier, MeetAt, IsName, NamedBefore, NamesRise, no_points, one_more_point, AreVertices}
+use Rattle.solid_laws.specs.Names.{Triple, MeetAt, IsName, NamedBefore, NamesRise, no_points, one_more_point}
 use Rattle.vertex_laws.specs.Vertex.{IsVertex}
 use Rattle.poly_laws.specs.Links.{Links, HasVertex}
 use Rattle.half_poly.specs.declared.links.HalfEdge.{HalfEdge}
@@ -23,9 +23,8 @@ use Rattle.half_poly.specs.Arenas.{links, nowhere}
 use Rattle.half_poly.specs.Shapes.{solid_of, sides_of, IsShape}
 use Rattle.half_poly.specs.Places.{AreDistinct, AreWithin, ArePlaces}
 use Rattle.half_poly.specs.Names.{no_name, HasNames, AreCorners, NotBefore, InOrder, corner_id, point_at, AreNamed}
-use Rattle.half_poly.proofs.ArenaReads.{There, there, read, live_is}
-use Rattle.half_poly.proofs.Making.{is_some_of}
-use Rattle.half_poly.proofs.Listed.{Source, source, image, get_map}
+use Rattle.half_poly.proofs.ArenaReads.{there, read}
+use Rattle.half_poly.proofs.Listed.{source, image, get_map}
 use Rattle.half_poly.proofs.Naming.{triple, slot_of, is_name}
 
 -- ---- two points with one name

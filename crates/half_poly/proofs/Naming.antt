@@ -1,5 +1,5 @@
 -- The names of the vertices in the arenas.
-use Rattle.std.proofs.Common.{◌≡◌, ◌≢◌, ℕ, ◌+◌, ◌<◌, ◌≤◌, List, [], ◌∷◌, length, get_or, map, slice_get, Option, Some, is_some, refl, sym, ap, subst, ◌∙◌, arith, inl, inr, ◌⊎◌, ⊎_elim, ℤ, pos, ◌<ℤ◌}
+use Rattle.std.proofs.Common.{◌≡◌, ℕ, ◌<◌, ◌≤◌, List, length, get_or, map, slice_get, Option, Some, sym, ap, subst, ◌∙◌, arith, ◌⊎◌, ℤ, pos, ◌<ℤ◌}
 use Rattle.std.proofs.lemmas.Int.{ints}
 use Rattle.std.proofs.lemmas.List.{length-map}
 use Rattle.std.proofs.lemmas.Option.{slice_get-get_or, get_or_from_slice_get, slice_get_within}
@@ -8,21 +8,18 @@ use Rattle.algebra.specs.Space.{Homogeneous, HalfSpace, det, side}
 use Rattle.algebra.proofs.Identities.{det-turn, det-equal_12, det-equal_23}
 use Rattle.algebra.proofs.Members.{member_at, at_of_member}
 use Rattle.half_arena.specs.declared.ids.FaceId.{FaceId}
-use Rattle.half_arena.specs.declared.ids.VertId.{VertId}
 use Rattle.exact_geom.specs.Planes.{half_space}
-use Rattle.solid_laws.specs.Names.{Triple, Earlier, MeetAt, IsName}
-use Rattle.vertex_laws.specs.Vertex.{IsVertex}
-use Rattle.poly_laws.specs.Links.{Links, HasVertex, HasEdge, HasFace}
-use Rattle.poly_laws.specs.Stands.{Neat, StandsFor}
+use Rattle.solid_laws.specs.Names.{Triple, IsName}
+use Rattle.poly_laws.specs.Links.{Links, HasVertex, HasFace}
 use Rattle.poly_laws.proofs.Three.{three_faces}
 use Rattle.half_poly.specs.declared.links.HalfEdge.{HalfEdge}
 use Rattle.half_poly.specs.declared.links.Face.{Face}
 use Rattle.half_poly.specs.declared.names.Name.{Name}
 use Rattle.half_poly.specs.Arenas.{links, no_plane}
-use Rattle.half_poly.specs.Shapes.{Tagged, no_side, bounds, solid_of, side_at, sides_of, IsShape}
+use Rattle.half_poly.specs.Shapes.{no_side, bounds, solid_of, side_at, sides_of, IsShape}
 use Rattle.half_poly.specs.Places.{ArePlaces}
 use Rattle.half_poly.specs.Names.{AreLeast, MeetsBelow}
-use Rattle.half_poly.proofs.ArenaReads.{There, there, read, live_is}
+use Rattle.half_poly.proofs.ArenaReads.{there, read, live_is}
 use Rattle.half_poly.proofs.Shaping.{side_is}
 use Rattle.half_poly.proofs.Listed.{get_map}
 use Rattle.half_poly.proofs.Least.{AreThree, are_three}

@@ -1,12 +1,12 @@
 -- Tags tell the faces apart.
-use Rattle.std.proofs.Common.{◌≡◌, ◌≢◌, ℕ, zero, suc, ◌+◌, ◌<◌, List, [], ◌∷◌, ◌++◌, length, get_or, map, Option, refl, sym, ap, subst, ◌∙◌, arith}
+use Rattle.std.proofs.Common.{◌≡◌, ◌≢◌, ℕ, zero, suc, ◌<◌, List, [], ◌∷◌, length, get_or, map, Option, sym, ap, subst, ◌∙◌, arith}
 use Rattle.std.proofs.lemmas.List.{length-map}
-use Rattle.algebra.specs.Members.{◌∈◌, Every}
+use Rattle.algebra.specs.Members.{Every}
 use Rattle.algebra.proofs.Members.{member_at}
 use Rattle.half_arena.specs.declared.ids.FaceId.{FaceId}
 use Rattle.half_poly.specs.declared.links.Face.{Face}
 use Rattle.half_poly.specs.Places.{AreDistinct}
-use Rattle.half_poly.specs.Shapes.{Tagged, no_side, side_at, sides_of, IsHalved, DistinctTags, no_sides, one_more_side}
+use Rattle.half_poly.specs.Shapes.{Tagged, no_side, side_at, sides_of, IsHalved, DistinctTags, one_more_side}
 use Rattle.half_poly.proofs.Listed.{get_map}
 use Rattle.half_poly.proofs.Trimmings.{kept_distinct, distinct_last}
 

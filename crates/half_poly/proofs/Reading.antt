@@ -1,5 +1,5 @@
 -- What is read of the loops that are kept.
-use Rattle.std.proofs.Common.{◌≡◌, ℕ, zero, suc, ◌≤◌, List, [], ◌∷◌, length, map, Option, None, Some, MatchOption, refl, sym, ap, subst, ◌∙◌, arith}
+use Rattle.std.proofs.Common.{◌≡◌, ℕ, zero, suc, ◌≤◌, List, [], ◌∷◌, length, Option, None, Some, MatchOption, refl, sym, ap, subst, ◌∙◌, arith}
 use Rattle.std.specs.List.{slice_get}
 use Rattle.std.specs.Option.{option_and_then, option_map}
 use Rattle.std.proofs.lemmas.List.{length-map}
@@ -17,7 +17,7 @@ use Rattle.half_poly.specs.Arenas.{nowhere}
 use Rattle.half_poly.specs.Shapes.{Tagged, solid_of, side_at, sides_of}
 use Rattle.half_poly.specs.Names.{point_at}
 use Rattle.half_poly.specs.Readings.{faces_of, points_of, IsPoly}
-use Rattle.half_poly.proofs.ArenaReads.{There, there, read}
+use Rattle.half_poly.proofs.ArenaReads.{there, read}
 use Rattle.half_poly.proofs.Shaping.{side_is}
 use Rattle.half_poly.specs.Rounds.{AreLoops}
 

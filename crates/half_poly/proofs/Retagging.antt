@@ -3,17 +3,16 @@ use Rattle.std.proofs.Common.{◌≡◌, ℕ, ◌+◌, ◌^◌, ◌<◌, ◌≤�
 use Rattle.std.specs.Option.{option_map, option_map_or}
 use Rattle.std.proofs.lemmas.Bool.Decides.{nat_tests}
 use Rattle.algebra.specs.Members.{◌∈◌, here, there as further, Every}
-use Rattle.algebra.specs.Space.{Homogeneous, HalfSpace}
+use Rattle.algebra.specs.Space.{Homogeneous}
 use Rattle.exact_geom.specs.Planes.{half_space}
 use Rattle.half_arena.specs.declared.ids.EdgeId.{EdgeId}
 use Rattle.half_arena.specs.declared.ids.FaceId.{FaceId}
-use Rattle.poly_laws.specs.Links.{Links}
 use Rattle.half_poly.specs.declared.links.HalfEdge.{HalfEdge}
 use Rattle.half_poly.specs.declared.links.Face.{Face}
 use Rattle.half_poly.specs.Arenas.{links, no_plane}
 use Rattle.half_poly.specs.Shapes.{Tagged, bounds, solid_of, side_at, sides_of, IsShape, DistinctTags, no_sides, one_more_side}
 use Rattle.half_poly.specs.Tags.{with_base, retagged}
-use Rattle.half_poly.proofs.ArenaReads.{There, there}
+use Rattle.half_poly.proofs.ArenaReads.{there}
 use Rattle.half_poly.proofs.Making.{is_some_of}
 use Rattle.half_poly.proofs.Listed.{image}
 use Rattle.half_poly.proofs.Shaping.{side_is}

@@ -1,5 +1,5 @@
 -- The walks round the faces, from the arenas.
-use Rattle.std.proofs.Common.{◌≡◌, ◌≢◌, ℕ, ◌+◌, ◌<◌, ◌≤◌, Bool, true, false, List, [], ◌∷◌, length, get_or, map, slice_get, Option, Some, None, is_some, nat_lt, refl, sym, ap, subst, ◌∙◌, arith, length-set, inl, inr, ◌⊎◌, ⊎_elim, pos, ◌<ℤ◌}
+use Rattle.std.proofs.Common.{◌≡◌, ℕ, ◌+◌, ◌<◌, ◌≤◌, true, false, List, length, get_or, map, Option, Some, None, nat_lt, refl, sym, ap, subst, ◌∙◌, arith, length-set, inl, inr, ◌⊎◌, ⊎_elim, pos}
 use Rattle.std.proofs.Math.ListN.{set}
 use Rattle.std.proofs.lemmas.Bool.{cases_eq, cases_lt}
 use Rattle.std.proofs.lemmas.Bool.Decides.{nat_tests}
@@ -13,21 +13,18 @@ use Rattle.half_arena.specs.declared.ids.EdgeId.{EdgeId}
 use Rattle.half_arena.specs.declared.ids.FaceId.{FaceId}
 use Rattle.exact_geom.specs.Planes.{half_space}
 use Rattle.vertex_laws.specs.HalfEdge.{IsHalfEdge}
-use Rattle.vertex_laws.specs.Loop.{HasHalfEdge}
-use Rattle.solid_laws.specs.Names.{AreVertices}
 use Rattle.solid_laws.proofs.Holds.{holds_vertices}
-use Rattle.poly_laws.specs.Links.{Links, HasVertex, HasEdge, HasFace}
-use Rattle.poly_laws.specs.Stands.{StandsFor}
+use Rattle.poly_laws.specs.Links.{Links, HasVertex, HasEdge}
 use Rattle.half_poly.specs.declared.links.HalfEdge.{HalfEdge}
 use Rattle.half_poly.specs.declared.links.Face.{Face}
-use Rattle.half_poly.specs.Arenas.{links, no_plane, nowhere}
-use Rattle.half_poly.specs.Shapes.{Tagged, no_side, bounds, solid_of, side_at, sides_of, IsShape}
+use Rattle.half_poly.specs.Arenas.{links, no_plane}
+use Rattle.half_poly.specs.Shapes.{bounds, solid_of, side_at, sides_of, IsShape}
 use Rattle.half_poly.specs.Places.{AreDistinct, AreWithin, ArePlaces}
 use Rattle.half_poly.specs.Names.{point_at, AreNamed}
 use Rattle.half_poly.specs.Noted.{Table, entry}
-use Rattle.half_poly.specs.Rounds.{begin_number, is_less, LeastOf, OfFace, LeastBelow, Least, IsFaceOf, origin, point, IsNumberOn, IsFirstOn, LeadsTo, GoesOn}
-use Rattle.half_poly.proofs.Making.{one_value, same_value, is_some_of}
-use Rattle.half_poly.proofs.ArenaReads.{There, there, read, live_is, none_or}
+use Rattle.half_poly.specs.Rounds.{begin_number, is_less, LeastOf, OfFace, LeastBelow, Least, origin, point, IsFirstOn, LeadsTo, GoesOn}
+use Rattle.half_poly.proofs.Making.{one_value, same_value}
+use Rattle.half_poly.proofs.ArenaReads.{there, read, live_is}
 use Rattle.half_poly.proofs.Shaping.{side_is}
 use Rattle.half_poly.proofs.Listed.{get_map}
 use Rattle.half_poly.proofs.WalkLaws.{same_number}

@@ -1,16 +1,14 @@
 -- What is said of a cut, as a cut of a trimmed list.
-use Rattle.std.proofs.Common.{◌≡◌, refl, sym, ap, List, [], ◌∷◌, ◌++◌, ℕ, ◌+◌, ◌≤◌}
+use Rattle.std.proofs.Common.{◌≡◌, refl, ap, List, [], ◌∷◌, ◌++◌, ℕ, ◌+◌, ◌≤◌}
 use Rattle.std.proofs.lemmas.List.{map-append}
 use Rattle.algebra.specs.Space.{HalfSpace}
 use Rattle.trim_laws.specs.Trim.{Trim}
 use Rattle.trim_laws.proofs.Faces.{trim_faces}
-use Rattle.trim_laws.specs.Valid.{HasInside}
 use Rattle.cut_laws.specs.Cut.{back}
 use Rattle.poly_laws.specs.Cuts.{CutsOne, misses, halves}
 use Rattle.poly_laws.proofs.Neats.{inside_back}
-use Rattle.half_poly.specs.declared.cut.Cut.{Cut}
 use Rattle.half_poly.specs.declared.cut.Cut.TheVariants.{Missed, Gone, Halved}
-use Rattle.half_poly.specs.Shapes.{Tagged, bounds, solid_of, Says, SaysLaw, NoneInFront, SomeInFront, NoneBehind}
+use Rattle.half_poly.specs.Shapes.{Tagged, bounds, solid_of, SaysLaw}
 use Rattle.poly_laws.specs.Counts.{AmongVertices, AmongEdges}
 
 same_list : (G K : List HalfSpace) (P : HalfSpace) → K ≡ G → CutsOne G P G → CutsOne G P K

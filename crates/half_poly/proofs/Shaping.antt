@@ -1,6 +1,6 @@
 -- After a cut the arenas stand for the list of the faces that stay, and the plane.
-use Rattle.std.proofs.Common.{◌≡◌, ◌≢◌, ℕ, Bool, true, false, cond, List, [], ◌∷◌, ◌++◌, map, filter, Option, Some, None, IsSome, is_some, refl, sym, ◌∙◌, ap, arith, inl, inr, ◌⊎◌, ⊎_elim, ℤ, pos, ◌<ℤ◌, ◌≤ℤ◌}
-use Rattle.std.proofs.lemmas.Int.{ints, by_lt_z}
+use Rattle.std.proofs.Common.{◌≡◌, ℕ, true, false, List, [], ◌∷◌, ◌++◌, Option, Some, None, IsSome, is_some, refl, sym, ◌∙◌, ap, inl, inr, ◌⊎◌, pos, ◌<ℤ◌}
+use Rattle.std.proofs.lemmas.Int.{by_lt_z}
 use Rattle.std.proofs.lemmas.List.{map-append}
 use Rattle.algebra.specs.Members.{◌∈◌, here, there as further}
 use Rattle.algebra.specs.Space.{Homogeneous, HalfSpace, dot, side}
@@ -11,8 +11,8 @@ use Rattle.half_poly.specs.declared.links.HalfEdge.{HalfEdge}
 use Rattle.half_poly.specs.declared.links.Face.{Face}
 use Rattle.half_poly.specs.Arenas.{links, no_plane}
 use Rattle.half_poly.specs.Noted.{Table, entry}
-use Rattle.half_poly.specs.Phases.{CutTo, Tables, Phases, wall_face, picks}
-use Rattle.half_poly.specs.Shapes.{Tagged, no_side, bounds, solid_of, side_at, sides_of, IsShape, keeps, IsHalved, HalvedShape, HalvedLaw}
+use Rattle.half_poly.specs.Phases.{CutTo, wall_face, picks}
+use Rattle.half_poly.specs.Shapes.{Tagged, no_side, bounds, solid_of, side_at, sides_of, IsShape, keeps, HalvedShape, HalvedLaw}
 use Rattle.half_poly.proofs.Making.{one_value, is_some_of}
 use Rattle.half_poly.proofs.ArenaReads.{There, there, live_is, read, none_or}
 use Rattle.half_poly.proofs.Trimmings.{Part, part_end, part_keep, part_drop, trim_sides}
@@ -20,8 +20,8 @@ use Rattle.half_poly.proofs.CutGlue.{FaceAfter, face_after, begins_of, begin_of_
 use Rattle.trim_laws.specs.Trim.{Trim}
 use Rattle.vertex_laws.specs.Vertex.{IsVertex, VertexOnBehind}
 use Rattle.cut_laws.specs.Cut.{back, Sifts, sift_end, sift_keep, sift_drop}
-use Rattle.poly_laws.specs.Links.{Links, HasVertex, HasEdge, HasFace, from_point, to_point}
-use Rattle.poly_laws.specs.Stands.{Neat, StandsFor}
+use Rattle.poly_laws.specs.Links.{Links, from_point}
+use Rattle.poly_laws.specs.Stands.{StandsFor}
 use Rattle.poly_laws.specs.Cut.{HasBehind}
 use Rattle.poly_laws.specs.Laws.{CutOff}
 use Rattle.poly_laws.proofs.Neats.{cut_list}

@@ -1,5 +1,5 @@
 -- The face with a tag.
-use Rattle.std.proofs.Common.{◌≡◌, ℕ, zero, suc, ◌+◌, ◌<◌, ◌≤◌, Bool, true, false, IsTrue, ◌↔◌, is_some, nat_eq, List, [], ◌∷◌, length, get_or, map, slice_get, Option, None, Some, IsSome, MatchOption, refl, sym, ap, subst, ◌∙◌, arith, inl, inr, ◌⊎◌, ⊎_elim}
+use Rattle.std.proofs.Common.{◌≡◌, ℕ, zero, suc, ◌+◌, ◌<◌, ◌≤◌, Bool, true, false, IsTrue, ◌↔◌, is_some, nat_eq, List, [], ◌∷◌, length, get_or, slice_get, Option, None, Some, IsSome, MatchOption, refl, sym, ap, subst, ◌∙◌, arith, ⊎_elim}
 use Rattle.std.specs.Option.{option_map, option_and_then}
 use Rattle.std.proofs.lemmas.Bool.{cases_eq}
 use Rattle.std.proofs.lemmas.List.{length-map}
@@ -14,7 +14,7 @@ use Rattle.solid_laws.specs.FaceLoop.{IsNumberedLoop, HasLoopVertex}
 use Rattle.half_poly.specs.declared.links.Face.{Face}
 use Rattle.half_poly.specs.Shapes.{Tagged, no_side, bounds, solid_of, side_at, sides_of}
 use Rattle.half_poly.specs.Tags.{tag_place, tags_of, with_tag, HasTaggedLoopVertex}
-use Rattle.half_poly.proofs.ArenaReads.{There, there}
+use Rattle.half_poly.proofs.ArenaReads.{there}
 use Rattle.half_poly.proofs.Listed.{get_map, source}
 use Rattle.half_poly.proofs.Shaping.{side_is}
 

@@ -1,9 +1,9 @@
 -- Sides that trimming keeps, by their half-spaces; and their tags.
-use Rattle.std.proofs.Common.{◌≡◌, List, [], ◌∷◌, ◌++◌, map, refl, sym, ap, subst, ◌∙◌, pos, ◌<ℤ◌, ◌≤ℤ◌, arith}
+use Rattle.std.proofs.Common.{◌≡◌, List, [], ◌∷◌, ◌++◌, refl, sym, ap, subst, pos, ◌<ℤ◌, ◌≤ℤ◌, arith}
 use Rattle.std.proofs.lemmas.Int.{ints}
 use Rattle.algebra.specs.Members.{◌∈◌, here, there, Every}
 use Rattle.algebra.specs.Space.{Homogeneous, HalfSpace, side, SameHalfSpace}
-use Rattle.trim_laws.specs.Trim.{Trim, Trims, ends, keeps, drops, TrimsFaces, TrimFaces, no_faces, keeps_face, drops_face}
+use Rattle.trim_laws.specs.Trim.{Trim, Trims, keeps, drops, TrimsFaces, TrimFaces, no_faces, keeps_face, drops_face}
 use Rattle.trim_laws.proofs.Trimmed.{trimmed_in}
 use Rattle.trim_laws.proofs.SameHalfSpace.{same_refl}
 use Rattle.vertex_laws.specs.Vertex.{IsVertex}

@@ -1,16 +1,14 @@
 -- The walk round a face: it goes on, ends where it began, and is the loop of the face.
-use Rattle.std.proofs.Common.{◌≡◌, ℕ, zero, suc, ◌-◌, ◌<◌, ◌≤◌, ⊎_elim, List, [], ◌∷◌, ◌++◌, length, length-append, get_or, map, slice_get, Some, refl, sym, ap, subst, ◌∙◌, arith, pos, ◌<ℤ◌}
-use Rattle.std.proofs.lemmas.List.{get_or_read, map-append}
+use Rattle.std.proofs.Common.{◌≡◌, ℕ, zero, suc, ◌-◌, ◌<◌, ◌≤◌, ⊎_elim, List, [], ◌∷◌, ◌++◌, length, length-append, map, slice_get, Some, refl, sym, ap, subst, ◌∙◌, arith, pos, ◌<ℤ◌}
+use Rattle.std.proofs.lemmas.List.{map-append}
 use Rattle.std.proofs.lemmas.Option.{slice_get-get_or}
 use Rattle.algebra.specs.Members.{◌∈◌, here, there}
-use Rattle.algebra.specs.Space.{Homogeneous, HalfSpace, SamePoint, side}
-use Rattle.algebra.proofs.Members.{each_of_more, member_at, at_of_member}
+use Rattle.algebra.specs.Space.{Homogeneous, HalfSpace, SamePoint}
+use Rattle.algebra.proofs.Members.{each_of_more, member_at}
 use Rattle.algebra.proofs.Points.{same_point_sym, same-on}
 use Rattle.vertex_laws.specs.Vertex.{IsVertex}
 use Rattle.vertex_laws.specs.Loop.{closed, Distinct, distinct_none, distinct_more, HasHalfEdge}
-use Rattle.vertex_laws.proofs.Criterion.{no_vertex}
-use Rattle.vertex_laws.proofs.HalfEdge.{outgoing}
-use Rattle.vertex_laws.proofs.OneLoop.{one_incoming, same_half_edge}
+use Rattle.vertex_laws.proofs.OneLoop.{one_incoming}
 use Rattle.vertex_laws.proofs.Loop.{loop}
 use Rattle.solid_laws.specs.Names.{Triple, MeetAt, NamedBefore, NamesRise, one_more_point, AreVertices}
 use Rattle.solid_laws.specs.FaceLoop.{LeastFirst, IsNumberedLoop}

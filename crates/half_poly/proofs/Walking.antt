@@ -1,6 +1,6 @@
 -- The steps of the walk round a face in the arenas.
 use Rattle.std.proofs.lemmas.Bool.Decides.{nat_tests}
-use Rattle.std.proofs.Common.{◌≡◌, Bool, true, false, eqb, arith, ℕ, ◌-◌, ◌<◌, List, [], ◌∷◌, ◌++◌, length, Option, Some, refl, sym, ap, subst, ◌∙◌}
+use Rattle.std.proofs.Common.{◌≡◌, Bool, true, false, eqb, arith, ℕ, ◌-◌, ◌<◌, List, [], ◌∷◌, ◌++◌, length, Option, Some, sym, ap, subst, ◌∙◌}
 use Rattle.algebra.specs.Space.{Homogeneous, HalfSpace}
 use Rattle.half_arena.specs.declared.ids.EdgeId.{EdgeId}
 use Rattle.solid_laws.specs.FaceLoop.{IsNumberedLoop}

@@ -1,29 +1,27 @@
 -- The arenas that are kept are a polyhedron.
-use Rattle.std.proofs.Common.{◌≡◌, ℕ, zero, suc, ◌+◌, ◌<◌, ◌≤◌, List, [], ◌∷◌, length, get_or, map, Option, Some, None, Bool, true, false, is_some, refl, sym, ap, subst, ◌∙◌, arith, inl, inr, ◌⊎◌, ⊎_elim, pos, ◌<ℤ◌}
+use Rattle.std.proofs.Common.{◌≡◌, ℕ, zero, suc, ◌<◌, ◌≤◌, List, [], ◌∷◌, length, get_or, Option, Some, None, true, false, is_some, refl, sym, ap, subst, ◌∙◌, arith, ⊎_elim, pos}
 use Rattle.std.proofs.lemmas.Int.{ints}
 use Rattle.std.proofs.lemmas.Bool.{cases_lt}
 use Rattle.std.proofs.lemmas.List.{get_or_past}
 use Rattle.algebra.specs.Members.{◌∈◌, here, there as further}
-use Rattle.algebra.specs.Space.{Homogeneous, HalfSpace, dot, cross, side}
+use Rattle.algebra.specs.Space.{HalfSpace, dot, cross}
 use Rattle.algebra.proofs.Identities.{norm-cross_self}
 use Rattle.algebra.proofs.Members.{member_at}
 use Rattle.half_arena.specs.Slots.{contents}
 use Rattle.half_arena.specs.declared.ids.VertId.{VertId}
-use Rattle.half_arena.specs.declared.ids.FaceId.{FaceId}
-use Rattle.vertex_laws.specs.Vertex.{IsEdge, Crosses}
+use Rattle.vertex_laws.specs.Vertex.{Crosses}
 use Rattle.vertex_laws.proofs.HalfEdge.{edge_crosses}
-use Rattle.poly_laws.specs.Links.{Links, HasEdge, HasFace, own_plane, other_plane}
+use Rattle.poly_laws.specs.Links.{Links, HasEdge, own_plane, other_plane}
 use Rattle.poly_laws.proofs.Round.{one_half_edge, goes_round}
 use Rattle.half_poly.specs.declared.links.Face.{Face}
 use Rattle.half_poly.specs.declared.shape.Shape.{Shape}
 use Rattle.exact_geom.specs.Planes.{half_space}
 use Rattle.poly_laws.specs.Stands.{StandsFor}
 use Rattle.half_poly.specs.Arenas.{links, no_plane}
-use Rattle.half_poly.specs.Shapes.{Tagged, bounds, solid_of, side_at, sides_of, DistinctTags, no_sides, one_more_side}
+use Rattle.half_poly.specs.Shapes.{Tagged, bounds, solid_of, side_at, sides_of, DistinctTags, one_more_side}
 use Rattle.half_poly.specs.Readings.{IsPoly}
-use Rattle.half_poly.specs.Polyhedron.{HasTwin, FaceEntry, IsPolyhedron, HasPolyhedron, PolyhedronLaw}
-use Rattle.half_poly.proofs.ArenaReads.{There, there, read, live_is}
-use Rattle.half_poly.proofs.Making.{same_value, one_value}
+use Rattle.half_poly.specs.Polyhedron.{HasTwin, IsPolyhedron, HasPolyhedron, PolyhedronLaw}
+use Rattle.half_poly.proofs.ArenaReads.{there, read, live_is}
 use Rattle.half_poly.proofs.Listed.{source, image}
 use Rattle.half_poly.proofs.Naming.{number_of, id_at, no_face}
 use Rattle.half_poly.proofs.Shaping.{side_is}

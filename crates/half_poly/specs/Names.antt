@@ -1,5 +1,5 @@
 -- The names of the vertices in the arenas.
-use Rattle.std.specs.Prelude.{◌≡◌, ◌≢◌, ◌⊎◌, ℕ, ◌<◌, ◌≤◌, List, length, get_or, map, nat_lt, nat_eq, if◌then◌else◌, Option, Some, IsSome}
+use Rattle.std.specs.Prelude.{◌≡◌, ◌⊎◌, ℕ, ◌<◌, ◌≤◌, List, length, get_or, map, nat_lt, nat_eq, if◌then◌else◌, Option, Some, IsSome}
 use Rattle.std.specs.Option.{option_map_or}
 use Rattle.algebra.specs.Members.{◌∈◌}
 use Rattle.algebra.specs.Space.{Homogeneous, HalfSpace}

@@ -1,12 +1,11 @@
 -- What is kept of a polyhedron to read it by: its vertices in the order of their names, the loops of its faces, and the order of the tags.
-use Rattle.std.specs.Prelude.{◌≡◌, ◌≢◌, ℕ, ◌<◌, List, [], ◌∷◌, length, get_or, map, Option, Some}
-use Rattle.algebra.specs.Members.{◌∈◌, Every}
+use Rattle.std.specs.Prelude.{◌≡◌, ℕ, List, map}
 use Rattle.algebra.specs.Space.{Homogeneous, HalfSpace}
 use Rattle.half_arena.specs.Slots.{contents}
 use Rattle.half_arena.specs.declared.ids.VertId.{VertId}
 use Rattle.half_arena.specs.declared.ids.FaceId.{FaceId}
 use Rattle.half_poly.specs.declared.shape.Shape.{Shape}
-use Rattle.half_poly.specs.Shapes.{Tagged, bounds, solid_of, side_at, sides_of, IsShape, DistinctTags}
+use Rattle.half_poly.specs.Shapes.{bounds, solid_of, side_at, sides_of, IsShape, DistinctTags}
 use Rattle.half_poly.specs.Names.{point_at, AreNamed}
 use Rattle.half_poly.specs.Rounds.{AreLoops}
 

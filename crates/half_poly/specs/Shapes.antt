@@ -1,5 +1,5 @@
 -- A polyhedron as a list of tagged planes.
-use Rattle.std.specs.Prelude.{◌≡◌, ℕ, List, [], ◌∷◌, ◌++◌, map, filter, Option, Some, IsSome, is_some, pos, ◌<ℤ◌, ◌≤ℤ◌}
+use Rattle.std.specs.Prelude.{◌≡◌, ℕ, List, [], ◌∷◌, ◌++◌, map, filter, Option, IsSome, is_some, pos, ◌<ℤ◌, ◌≤ℤ◌}
 use Rattle.std.specs.Option.{option_map_or}
 use Rattle.algebra.specs.Members.{◌∈◌, Every}
 use Rattle.algebra.specs.Space.{Homogeneous, HalfSpace, dot, side}

@@ -1,6 +1,6 @@
 -- What a list of cuts leaves: what trimming keeps of all the planes.
 use Rattle.std.specs.Prelude.{◌≡◌, List, [], ◌∷◌, ◌++◌, pos, ◌<ℤ◌}
-use Rattle.algebra.specs.Space.{Homogeneous, HalfSpace, dot}
+use Rattle.algebra.specs.Space.{Homogeneous, dot}
 use Rattle.trim_laws.specs.Solid.{IsInside}
 use Rattle.trim_laws.specs.Trim.{TrimFaces}
 use Rattle.poly_laws.specs.Cuts.{TrimsTo}

@@ -1,4 +1,4 @@
-use Rattle.std.proofs.Common.{◌≡◌, map, sym, ◌∙◌, subst, length, []}
+use Rattle.std.proofs.Common.{map, sym, ◌∙◌, subst, []}
 use Rattle.std.proofs.lemmas.List.{length-map}
 use Rattle.half_arena.specs.declared.ids.EdgeId.{EdgeId}
 use Rattle.half_arena.specs.declared.ids.FaceId.{FaceId}

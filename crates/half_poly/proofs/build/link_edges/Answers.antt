@@ -1,4 +1,4 @@
-use Rattle.std.proofs.Common.{map, sym, ◌∙◌, ap, subst, arith}
+use Rattle.std.proofs.Common.{map}
 use Rattle.half_arena.specs.declared.ids.EdgeId.{EdgeId}
 use Rattle.half_arena.specs.Slots.{contents}
 use Rattle.half_poly.specs.Walls.{cube_edge}

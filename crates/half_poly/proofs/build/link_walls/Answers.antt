@@ -1,4 +1,4 @@
-use Rattle.std.proofs.Common.{map, sym, refl}
+use Rattle.std.proofs.Common.{map, refl}
 use Rattle.half_arena.specs.declared.ids.FaceId.{FaceId}
 use Rattle.half_arena.specs.Slots.{contents}
 use Rattle.half_poly.specs.Walls.{cube_wall}

@@ -1,9 +1,8 @@
-use Rattle.std.proofs.Common.{◌≡◌, ℕ, Some, None, IsSome, length, rules, refl, sym, ◌∙◌, ap}
-use Rattle.half_arena.specs.Slots.{contents, put, IsLive}
+use Rattle.std.proofs.Common.{◌≡◌, Some, None, length, refl}
+use Rattle.half_arena.specs.Slots.{contents, IsLive}
 use Rattle.half_poly.specs.declared.links.Face.{Face}
 use Rattle.half_poly.specs.Taken.{face_step}
 use Rattle.half_poly.specs.Passes.{Passed}
-use Rattle.half_poly.specs.Paired.{relink_step, LinkedBelow}
 use Rattle.half_poly.proofs.CutDone.{wall_live, old_live, within, within_vertices, from_of, paired_of, first_of, relinked_of, linked_of}
 use Rattle.half_poly.proofs.Linking.{put_there}
 use Rattle.half_poly.proofs.cutting.cut_arenas.Goals as goal

@@ -1,5 +1,4 @@
-use Rattle.std.proofs.Common.{◌≡◌, sym, ap, ◌∙◌, map, length}
-use Rattle.half_arena.specs.declared.ids.VertId.{VertId}
+use Rattle.std.proofs.Common.{sym, ap, ◌∙◌, map, length}
 use Rattle.half_arena.specs.Slots.{contents}
 use Rattle.std.proofs.lemmas.List.{length-map}
 use Rattle.half_poly.specs.Noted.{entry}

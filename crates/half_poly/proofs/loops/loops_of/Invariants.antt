@@ -1,4 +1,4 @@
-use Rattle.std.proofs.Common.{◌≡◌, ◌<◌, ℕ, List, length, map, slice_get, Some}
+use Rattle.std.proofs.Common.{◌≡◌, ℕ, List, length, map, slice_get, Some}
 use Rattle.algebra.specs.Space.{HalfSpace}
 use Rattle.solid_laws.specs.FaceLoop.{IsNumberedLoop}
 use Rattle.half_poly.specs.Readings.{faces_of, points_of}

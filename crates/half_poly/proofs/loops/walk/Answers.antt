@@ -1,8 +1,6 @@
-use Rattle.std.proofs.Common.{◌≡◌, [], ◌∷◌, ◌++◌, sym, ap, subst, ◌∙◌}
 use Rattle.half_arena.specs.Slots.{contents}
-use Rattle.half_poly.specs.Rounds.{begin_number, OfFace}
+use Rattle.half_poly.specs.Rounds.{begin_number}
 use Rattle.half_poly.specs.Readings.{faces_of, points_of, face_at}
-use Rattle.half_poly.proofs.WalkLaws.{Path, begin}
 use Rattle.half_poly.proofs.Walking.{begun, went_on, came_back, nearer, eq_is, ne_is}
 use Rattle.half_poly.proofs.loops.walk.Goals as goal
 

@@ -1,5 +1,4 @@
 use Rattle.std.proofs.Common.{◌≡◌, Some, rules, get_or, subst, refl}
-use Rattle.algebra.specs.Space.{Homogeneous}
 use Rattle.exact_geom.specs.Vertices.{IsReduced}
 use Rattle.half_arena.specs.Slots.{contents}
 use Rattle.half_poly.specs.Names.{no_name}

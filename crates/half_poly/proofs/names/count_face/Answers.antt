@@ -1,4 +1,4 @@
-use Rattle.std.proofs.Common.{◌≡◌, Some, None, rules, refl, sym, ◌∙◌, ap, subst, ◌≤◌, length, get_or}
+use Rattle.std.proofs.Common.{◌≡◌, Some, rules, refl, ◌∙◌, ap, subst, ◌≤◌, length, get_or}
 use Rattle.half_arena.specs.Slots.{contents}
 use Rattle.half_poly.specs.Names.{no_name, with_number}
 use Rattle.half_poly.proofs.Counted.{names_skip, names_past, names_put}

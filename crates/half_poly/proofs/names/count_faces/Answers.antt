@@ -1,5 +1,4 @@
-use Rattle.std.proofs.Common.{◌≡◌, ◌∙◌}
-use Rattle.half_arena.specs.Slots.{contents}
+use Rattle.std.proofs.Common.{◌∙◌}
 use Rattle.half_poly.proofs.names.count_faces.Goals as goal
 
 pub loop-place-preserved : goal.loop-place-preserved

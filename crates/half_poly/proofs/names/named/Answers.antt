@@ -1,6 +1,4 @@
-use Rattle.std.proofs.Common.{◌≡◌, ◌∙◌, refl, map, length}
-use Rattle.half_arena.specs.Slots.{contents}
-use Rattle.half_poly.specs.Places.{ArePlaces}
+use Rattle.std.proofs.Common.{refl, map, length}
 use Rattle.half_poly.proofs.Making.{is_some_of}
 use Rattle.half_poly.proofs.LoopLists.{places_at}
 use Rattle.half_poly.proofs.Naming.{slot_of, number_within}

@@ -1,4 +1,4 @@
-use Rattle.std.proofs.Common.{◌≡◌, length}
+use Rattle.std.proofs.Common.{length}
 use Rattle.half_arena.specs.Slots.{contents}
 use Rattle.half_poly.proofs.Cornering.{corners_moved, in_order}
 use Rattle.half_poly.proofs.names.sorted_corners.Goals as goal

@@ -1,6 +1,3 @@
-use Rattle.std.proofs.Common.{◌≡◌, ◌+◌, ◌∙◌, length, length-set, map, sym, ap, subst, arith}
-use Rattle.std.proofs.lemmas.List.{length-map}
-use Rattle.half_poly.specs.Places.{ArePlaces, AreWithin}
 use Rattle.half_poly.proofs.Listed.{places_put}
 use Rattle.half_poly.proofs.places.put_places.Goals as goal
 

@@ -1,7 +1,7 @@
-use Rattle.std.proofs.Common.{◌≡◌, ◌∙◌, ◌++◌, ◌∷◌, [], sym, refl}
+use Rattle.std.proofs.Common.{◌≡◌, ◌∙◌, ◌++◌, ◌∷◌, [], refl}
 use Rattle.exact_geom.proofs.PlaneLaws.{normal_positive}
 use Rattle.half_arena.specs.Slots.{contents}
-use Rattle.half_poly.specs.Shapes.{keeps, HalvedShape, Tagged}
+use Rattle.half_poly.specs.Shapes.{keeps, HalvedShape}
 use Rattle.half_poly.proofs.Shaping.{halved_shape}
 use Rattle.half_poly.proofs.Answering.{at_order, halved_at, kept_order}
 use Rattle.half_poly.proofs.shape.halved.Goals as goal

@@ -1,4 +1,3 @@
-use Rattle.std.proofs.Common.{◌≡◌, ◌∙◌, sym, get_or}
 use Rattle.half_arena.specs.Slots.{contents}
 use Rattle.half_poly.proofs.Tagging.{tag_found, no_tag, tag_passed}
 use Rattle.half_poly.proofs.tags.face_with.Goals as goal

@@ -1,4 +1,4 @@
-use Rattle.std.proofs.Common.{◌≡◌, ◌/◌, ap, subst}
+use Rattle.std.proofs.Common.{◌/◌, ap, subst}
 use Rattle.half_poly.specs.Shapes.{solid_of}
 use Rattle.half_poly.specs.Edges.{HasEdgeCount}
 use Rattle.half_poly.proofs.Halves.{edge_count}

@@ -1,4 +1,4 @@
-use Rattle.std.proofs.Common.{◌≡◌, ◌∙◌, sym, refl, ap, true, false}
+use Rattle.std.proofs.Common.{◌∙◌, sym, ap}
 use Rattle.half_arena.specs.Slots.{contents}
 use Rattle.exact_geom.specs.Planes.{half_space}
 use Rattle.half_poly.specs.Shapes.{sides_of}
