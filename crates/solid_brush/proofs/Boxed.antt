@@ -2,41 +2,20 @@
 use Rattle.std.proofs.Common.{◌≡◌, ◌↔◌, ◌⊎◌, inl, inr, ⊎_elim, ◌≤◌, List, [], ◌∷◌, ◌++◌, length, map, All, Bool, false, IsTrue, refl, sym, ap, ◌∙◌, subst, arith, ℤ, pos, neg_ℤ, ◌*ℤ◌, ◌<ℤ◌, ◌≤ℤ◌}
 use Rattle.std.proofs.lemmas.Bool.{false≢true}
 use Rattle.std.proofs.lemmas.Int.{ints, by_lt_z}
-use Rattle.std.proofs.lemmas.List.{map-append, length-append, length-map}
 use Rattle.algebra.specs.Members.{◌∈◌, here, there, Every}
 use Rattle.algebra.specs.Space.{Homogeneous, HalfSpace, SamePoint, through, dot, cross, minus}
 use Rattle.algebra.specs.World.{InCube, world, reach}
 use Rattle.algebra.proofs.Members.{each_of_none, each_of_more}
 use Rattle.algebra.proofs.Points.{same-in, same_point_sym}
 use Rattle.trim_laws.proofs.Bearing.{in_of_inside}
-use Rattle.exact_geom.specs.Planes.{ThreePoints, half_space, IsPlane}
 use Rattle.trim_laws.specs.Solid.{IsIn, Proper, Bounded}
 use Rattle.trim_laws.specs.Valid.{HasInside, NoVolume, OutOfWorld, HasCause, no_volume, out_of_world, is_no_volume, is_out_of_world}
 use Rattle.vertex_laws.specs.Cube.{cube, boxed, VertexOutside}
 use Rattle.vertex_laws.proofs.Cube.{cube_bounded, leaves_cube, in_walls, of_walls}
 use Rattle.vertex_laws.proofs.Box.{box_volume, box_leaves}
 use Rattle.solid_laws.specs.Names.{AreVertices, HoldsVertices}
-use Rattle.solid_laws.proofs.Holds.{holds_vertices}
 use Rattle.solid_laws.proofs.BoxVertices.{box_vertices}
-use Rattle.vertex_search.proofs.Deciding.{proper}
-use Rattle.solid_brush.specs.declared.side.Side.{Side}
-use Rattle.solid_brush.specs.Sides.{half_spaces, planes_of, IsWithinWorld}
-use Rattle.solid_brush.specs.Walls.{wall_points}
-use Rattle.solid_brush.proofs.Tags.{half_spaces-planes_of}
-
--- ---- the planes
-walls : map half_space wall_points ≡ cube reach
-unfolding through dot cross minus
-walls = refl
-
-pub boxed_planes : (sides : List Side) (P : List ThreePoints) → P ≡ wall_points ++ planes_of sides → map half_space P ≡ boxed reach (half_spaces sides)
-boxed_planes sides P e =
-    ap (map half_space) e ∙ map-append half_space wall_points (planes_of sides) ∙ ap (λ C. C ++ map half_space (planes_of sides)) walls
-    ∙ ap (λ F. cube reach ++ F) (half_spaces-planes_of sides)
-
-pub few_boxed : (sides : List Side) (P : List ThreePoints) → P ≡ wall_points ++ planes_of sides → length sides ≤ 256 → length P ≤ 262
-few_boxed sides P e l =
-    let f = ap length e ∙ length-append wall_points (planes_of sides) in let g : length (planes_of sides) ≡ length sides = length-map sides (λ (s : Side). s.plane) in omega arith
+use Rattle.solid_brush.specs.Sides.{IsWithinWorld}
 
 -- ---- members
 in_first : (C F : List HalfSpace) (f : HalfSpace) → f ∈ C → f ∈ (C ++ F)
@@ -44,7 +23,7 @@ in_first [] F f m = elim m [ ]
 in_first (c ∷ C) F f here = here
 in_first (c ∷ C) F f (there m) = there (in_first C F f m)
 
-in_last : (C F : List HalfSpace) (f : HalfSpace) → f ∈ F → f ∈ (C ++ F)
+pub in_last : (C F : List HalfSpace) (f : HalfSpace) → f ∈ F → f ∈ (C ++ F)
 in_last [] F f m = m
 in_last (c ∷ C) F f m = there (in_last C F f m)
 
@@ -126,18 +105,5 @@ within_world F V r i h each =
       };
     }
 
--- ---- the planes that were read
-pub proper_sides : (sides : List Side) (P : List ThreePoints) → P ≡ wall_points ++ planes_of sides → All IsPlane P → Proper (half_spaces sides)
-proper_sides sides P e all f m = proper P all f (subst (λ F. f ∈ F) (sym (boxed_planes sides P e)) (in_last (cube reach) (half_spaces sides) f m))
-
-pub holds_boxed : (sides : List Side) (P : List ThreePoints) (V : List Homogeneous) → P ≡ wall_points ++ planes_of sides → AreVertices (map half_space P) V →
-    HoldsVertices (boxed reach (half_spaces sides)) V
-holds_boxed sides P V e a = subst (λ F. HoldsVertices F V) (boxed_planes sides P e) (holds_vertices (map half_space P) V a)
-
 pub not_true : (b : Bool) (P : Type 0) → IsTrue b ↔ P → b ≡ false → ¬ P
 not_true b P law e p = false≢true (sym e ∙ law.1 p)
-
--- the planes that were gathered
-pub all_planes : (sides : List Side) {begun walled done : List ThreePoints} → begun ≡ [] → walled ≡ begun ++ wall_points → done ≡ walled ++ planes_of sides →
-    done ≡ wall_points ++ planes_of sides
-all_planes sides e f g = g ∙ ap (λ P. P ++ planes_of sides) (f ∙ ap (λ P. P ++ wall_points) e)

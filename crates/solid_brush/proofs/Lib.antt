@@ -1,8 +1,8 @@
 pub mod Tags
 pub mod Boxed
-pub mod Keeping
-pub mod Needing
 pub mod Building
-pub mod Gathering
-pub mod Reading
+pub mod Behind
+pub mod Unboxed
+pub mod Faces
+pub mod Fewness
 pub mod Retagged

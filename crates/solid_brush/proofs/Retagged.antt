@@ -1,16 +1,18 @@
 -- A solid whose tags change in place.
-use Rattle.std.proofs.Common.{◌≡◌, ℕ, zero, suc, ◌+◌, ◌^◌, ◌<◌, ◌≤◌, List, [], ◌∷◌, ◌++◌, length, map, take, drop, get_or, take_all, append-nil, add-one, refl, sym, ap, subst, ◌∙◌, arith}
+use Rattle.std.proofs.Common.{◌≡◌, true, nat_lt, ℕ, zero, suc, ◌+◌, ◌^◌, ◌<◌, ◌≤◌, List, [], ◌∷◌, ◌++◌, length, map, take, drop, get_or, take_all, append-nil, add-one, refl, sym, ap, subst, ◌∙◌, arith}
 use Rattle.std.proofs.Math.ListN.{set}
 use Rattle.std.proofs.Math.Seq.{drop-nil}
 use Rattle.std.proofs.lemmas.List.{length-map}
-use Rattle.algebra.specs.Members.{Every}
-use Rattle.algebra.specs.Space.{Homogeneous}
+use Rattle.std.proofs.lemmas.Bool.Decides.{nat_tests}
+use Rattle.algebra.specs.Members.{◌∈◌, here, there, Every}
+use Rattle.algebra.proofs.Members.{member_at}
 use Rattle.trim_laws.specs.Valid.{Valid}
-use Rattle.vertex_search.proofs.Lists.{member_read}
 use Rattle.solid_brush.specs.declared.side.Side.{Side}
 use Rattle.solid_brush.specs.Sides.{with_base}
-use Rattle.solid_brush.specs.Polyhedron.{IsPolyhedron, IsKeptSolid}
-use Rattle.solid_brush.proofs.Tags.{half_spaces-with_base, tags_with_base}
+use Rattle.half_poly.specs.Shapes.{Tagged}
+use Rattle.half_poly.specs.Tags.{with_base as more_tag}
+use Rattle.solid_brush.specs.Cutting.{tagged, IsKeptSolid}
+use Rattle.solid_brush.proofs.Tags.{every_map, half_spaces-with_base, tags_with_base}
 
 -- the element that is reached is changed next
 changed_more : {A : Type 0} (f : A → A) (old now : List A) (i : ℕ) (d : A) → i < length old → now ≡ map f (take i old) ++ drop i old →
@@ -32,7 +34,7 @@ pub tag_fits : (base : ℕ) (old now : List Side) (i : ℕ) (s : Side) → i < l
     Every (λ t. t.tag + base < 2 ^ 31) old → s ≡ get_or now i s → (get_or now i s).tag + base < 2 ^ 31
 tag_fits base old now i s l e room is =
     let more = changed_more (with_base base) old now i s l e in
-    subst (λ t. t.tag + base < 2 ^ 31) is (room s (member_read old i s l (is ∙ more.0)))
+    subst (λ t. t.tag + base < 2 ^ 31) is (room s (subst (λ y. y ∈ old) (sym (is ∙ more.0)) (member_at old i s l)))
 
 drop_all : {A : Type 0} (n : ℕ) (xs : List A) → length xs ≤ n → drop n xs ≡ []
 drop_all n [] l = drop-nil n
@@ -46,11 +48,22 @@ retagged base n old read now e l m =
     let length_old = ap length e in
     ap (λ rest. take n (now ++ rest)) (drop_all (length now) old (omega arith)) ∙ ap (take n) (append-nil now) ∙ take_all n now (omega arith) ∙ now_is
 
-pub kept_with_base : (base : ℕ) (sides : List Side) (V : List Homogeneous) (loops : List (List ℕ)) → IsKeptSolid sides V loops → Every (λ s. s.tag + base < 2 ^ 31) sides →
-    IsKeptSolid (map (with_base base) sides) V loops
-kept_with_base base sides V loops k room =
+-- the polyhedron with other tags
+with_tag : (base : ℕ) (s : Side) → s.tag < 2 ^ 31 → more_tag base (tagged s) ≡ tagged (with_base base s)
+with_tag base s l = let t : nat_lt s.tag (2 ^ 31) ≡ true = grind (arith, nat_tests) in rw t refl
+
+all_with_tags : (base : ℕ) (sides : List Side) → Every (λ s. s.tag < 2 ^ 31) sides → map (more_tag base) (map tagged sides) ≡ map tagged (map (with_base base) sides)
+all_with_tags base [] small = refl
+all_with_tags base (s ∷ sides) small = ap (λ x. x ∷ map (more_tag base) (map tagged sides)) (with_tag base s (small s here)) ∙ ap (λ l. tagged (with_base base s) ∷ l) (all_with_tags base sides (λ x m. small x (there m)))
+
+pub room_of : (base : ℕ) (sides : List Side) (poly : List Tagged) → poly ≡ map tagged sides → Every (λ s. s.tag + base < 2 ^ 31) sides → Every (λ s. s.tag < 2 ^ 31 → s.tag + base < 2 ^ 31) poly
+room_of base sides poly q room = subst (Every (λ s. s.tag < 2 ^ 31 → s.tag + base < 2 ^ 31)) (sym q) (every_map tagged (λ (s : Tagged). s.tag < 2 ^ 31 → s.tag + base < 2 ^ 31) sides (λ s m l. room s m))
+
+pub kept_with_base : (base : ℕ) (sides : List Side) (poly after : List Tagged) → IsKeptSolid sides poly → Every (λ s. s.tag + base < 2 ^ 31) sides → after ≡ map (more_tag base) poly →
+    IsKeptSolid (map (with_base base) sides) after
+kept_with_base base sides poly after k room q =
     let e = sym (half_spaces-with_base base sides) in
     record {
       solid = record { tags = tags_with_base base sides k.solid.tags room; brush = subst Valid e k.solid.brush };
-      polyhedron = subst (λ F. IsPolyhedron F V loops) e k.polyhedron;
+      same = q ∙ ap (map (more_tag base)) k.same ∙ all_with_tags base sides k.solid.tags.small;
     }

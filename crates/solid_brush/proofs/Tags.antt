@@ -3,10 +3,13 @@ use Rattle.std.proofs.Common.{◌≡◌, ℕ, ◌+◌, ◌^◌, ◌<◌, ◌≤�
 use Rattle.algebra.specs.Members.{◌∈◌, here, there, Every}
 use Rattle.algebra.proofs.Members.{each_of_more}
 use Rattle.trim_laws.specs.Trim.{TrimsFaces, no_faces, keeps_face, drops_face}
-use Rattle.vertex_search.proofs.Lists.{every_map}
-use Rattle.exact_geom.specs.Planes.{half_space}
 use Rattle.solid_brush.specs.declared.side.Side.{Side}
-use Rattle.solid_brush.specs.Sides.{bounds, half_spaces, planes_of, DistinctTags, no_sides, one_more_side, HaveTags, with_base}
+use Rattle.solid_brush.specs.Sides.{bounds, half_spaces, DistinctTags, no_sides, one_more_side, HaveTags, with_base}
+
+-- ---- images
+pub every_map : {A B : Type 0} (f : A → B) (P : B → Type 0) (xs : List A) → Every (λ x. P (f x)) xs → Every P (map f xs)
+every_map f P [] each = λ y m. elim m [ ]
+every_map f P (x ∷ xs) each = each_of_more P (f x) (map f xs) (each x here) (every_map f P xs (λ y m. each y (there m)))
 
 -- ---- other tags
 pub half_spaces-with_base : (base : ℕ) (sides : List Side) → half_spaces (map (with_base base) sides) ≡ half_spaces sides
@@ -21,11 +24,6 @@ distinct_with_base base (one_more_side {s} {sides} apart others) =
 pub tags_with_base : (base : ℕ) (sides : List Side) → HaveTags sides → Every (λ s. s.tag + base < 2 ^ 31) sides → HaveTags (map (with_base base) sides)
 tags_with_base base sides tags room =
     record { distinct = distinct_with_base base tags.distinct; small = every_map (with_base base) (λ s. s.tag < 2 ^ 31) sides room }
-
--- ---- the half-spaces of planes
-pub half_spaces-planes_of : (sides : List Side) → map half_space (planes_of sides) ≡ half_spaces sides
-half_spaces-planes_of [] = refl
-half_spaces-planes_of (s ∷ sides) = ap (λ F. bounds s ∷ F) (half_spaces-planes_of sides)
 
 -- ---- sides that trimming keeps
 pub kept_in : {F earlier rest kept : List Side} → TrimsFaces bounds F earlier rest kept → (s : Side) → s ∈ kept → s ∈ rest

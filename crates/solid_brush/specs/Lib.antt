@@ -1,3 +1,2 @@
-pub mod Polyhedron
 pub mod Sides
-pub mod Walls
+pub mod Cutting

@@ -3,7 +3,7 @@ use Rattle.std.specs.Prelude.{◌≡◌, ℕ, ◌+◌, ◌^◌, ◌<◌, List, m
 use Rattle.algebra.specs.Members.{Every}
 use Rattle.algebra.specs.Space.{Homogeneous, HalfSpace}
 use Rattle.algebra.specs.World.{InCube, world}
-use Rattle.exact_geom.specs.Planes.{ThreePoints, half_space}
+use Rattle.exact_geom.specs.Planes.{half_space}
 use Rattle.trim_laws.specs.Solid.{IsIn, Proper}
 use Rattle.trim_laws.specs.Trim.{TrimFaces}
 use Rattle.solid_laws.specs.Names.{HoldsVertices}
@@ -19,10 +19,6 @@ bounds s = half_space s.plane
 -- The half-spaces of sides, in order.
 abbrev pub half_spaces : List Side → List HalfSpace
 half_spaces sides = map bounds sides
-
--- The planes of sides, in order.
-abbrev pub planes_of : List Side → List ThreePoints
-planes_of sides = map (λ s. s.plane) sides
 
 -- The list has no zero normal, a point inside and none outside the world, and these are its vertices.
 pub record IsWithinWorld (F : List HalfSpace) (corners : List Homogeneous) : Type 0 where

@@ -3,15 +3,15 @@
 //! `Solid::build` takes the sides of a brush, drops those that it does not need, and refuses lists that bound no volume, leave
 //! the world or need too many faces. It is exact: a solid is the set of the points that lie behind or on all of its sides, and
 //! the built one has exactly the points of the sides that were given. Its vertices, in the order of their names, and the loop of
-//! each side can be read. Sides are found to be needed by trying the vertices where three planes meet.
+//! each side can be read. It is cut from the cube from -4352 to
+//! 4352, side by side, and keeps its polyhedron.
 #![tactic(auto)]
 
+mod cutting;
 mod fault;
-mod polyhedron;
 mod side;
 mod solid;
-mod trimming;
-mod walls;
+mod world;
 
 pub use fault::BuildFault;
 pub use side::Side;

@@ -1,43 +1,43 @@
 //! Valid brushes.
 
-ghost use Rattle.std.specs.Prelude.{◌≡◌, ◌+◌, ◌^◌, ◌<◌, ◌≤◌, map, length, IfOk, IfErr};
+ghost use Rattle.std.specs.Prelude.{◌≡◌, ◌+◌, ◌^◌, ◌<◌, ◌≤◌, map, length, IfOk, IfErr, IfSome};
 ghost use Rattle.algebra.specs.Members.{Every};
 ghost use Rattle.solid_laws.specs.FaceLoop.{HasVertexCount, HasVertex, HasLoopVertex};
 ghost use Rattle.solid_brush.specs.Sides.{half_spaces, HaveTags, IsSolid, IsBuiltOf, IsRefusedFor, with_base};
 
+use crate::cutting::{behind, sides_of};
 use crate::fault::BuildFault;
-use crate::polyhedron::{copy_loops, loops_of, number_at};
 use crate::side::{Side, add_to_tags};
-use crate::trimming::{corners_of, planes_of, trimmed};
-use exact_geom::{HVertex, Rows};
+use crate::world::lies_in_world;
+use exact_geom::HVertex;
+use half_poly::Poly;
 use std::alloc::{AllocError, Global};
 use std::marker::Model;
-use vertex_search::vertices_of;
 
 // More faces no brush may need.
 const MOST_FACES: usize = 128;
 
 /// A valid brush: a convex solid with a volume, in the world, with the 4 to 128 sides that it needs and no other.
 /// A contract sees the list of its sides.
-#[derive(Debug, Drop)]
+#[derive(Drop)]
+#[derive_where(Debug)]
 pub struct Solid {
     sides: Vec<Side>,
-    // The vertices in the order of their names.
-    vertices: Vec<HVertex>,
-    // For each side the numbers of the vertices round it.
-    loops: Vec<Rows<u32>>,
+    // The same sides as a polyhedron.
+    #[derive_where(skip)]
+    poly: Poly,
 }
 
 impl Model for Solid {
     ghost use Rattle.std.specs.Prelude.{List};
     ghost use Rattle.solid_brush.specs.declared.side.Side.{Side};
-    ghost use Rattle.solid_brush.specs.Polyhedron.{IsKeptSolid};
+    ghost use Rattle.solid_brush.specs.Cutting.{IsKeptSolid};
 
     ghost Value = { List Side };
 
     ghost view = { λ s. s.sides.items };
 
-    ghost invariant = { λ s. IsKeptSolid s.sides.items s.vertices.items s.loops.items };
+    ghost invariant = { λ s. IsKeptSolid s.sides.items s.poly };
 }
 
 impl Solid {
@@ -53,27 +53,17 @@ impl Solid {
         ensures solid { IfOk result IsSolid }
         ensures fault { IfErr result (IsRefusedFor (half_spaces sides.now)) }
     {
-        let corners = corners_of(alloc, sides)?;
-        let kept = trimmed(alloc, sides, &corners)?;
+        let Some(poly) = behind(alloc, sides)? else {
+            return Err(BuildFault::NoVolume);
+        };
+        if !lies_in_world(&poly) {
+            return Err(BuildFault::OutOfWorld);
+        }
+        let kept = sides_of(alloc, &poly)?;
         if kept.len() > MOST_FACES {
             return Err(BuildFault::TooManyFaces(kept.len() as u32));
         }
-        Ok(Solid::of_trimmed(alloc, kept)?)
-    }
-
-    // The solid of sides that are a valid brush.
-    fn of_trimmed(alloc: Global, sides: Vec<Side>) -> Result<Solid, AllocError>
-        requires solid { IsSolid sides.items }
-        ensures same { IfOk result (λ solid. solid ≡ sides.items) }
-    {
-        let planes = planes_of(alloc, &sides)?;
-        let vertices = vertices_of(alloc, &planes)?;
-        let loops = loops_of(alloc, &planes, &vertices)?;
-        Ok(Solid {
-            sides,
-            vertices,
-            loops,
-        })
+        Ok(Solid { sides: kept, poly })
     }
 
     /// The sides, in order.
@@ -88,7 +78,7 @@ impl Solid {
     pub fn vertex_count(&self) -> u32
         ensures count { HasVertexCount (half_spaces self.now) result }
     {
-        self.vertices.len() as u32
+        self.poly.vertex_count() as u32
     }
 
     /// The vertex with number k, of the vertices in the order of their names: a vertex is named by the first three sides, by
@@ -96,7 +86,7 @@ impl Solid {
     pub fn vertex(&self, k: u32) -> Option<HVertex>
         ensures vertex { HasVertex (half_spaces self.now) k result }
     {
-        self.vertices.get(k as usize).copied()
+        self.poly.vertex(k as usize)
     }
 
     /// The number of the vertex at place k of the loop of a side: its vertices clockwise, seen from outside, from the one
@@ -104,7 +94,7 @@ impl Solid {
     pub fn loop_vertex(&self, face: u32, k: u32) -> Option<u32>
         ensures vertex { HasLoopVertex (half_spaces self.now) face k result }
     {
-        number_at(&self.loops, face as usize, k as usize)
+        number_as_u32(self.poly.loop_of_face(face as usize, k as usize))
     }
 
     /// Adds a number to each tag.
@@ -113,6 +103,7 @@ impl Solid {
         ensures tags { self.new ≡ map (with_base base) self.old }
     {
         add_to_tags(&mut self.sides, base);
+        self.poly.retag(base);
     }
 
     /// An equal brush, or an error for want of memory.
@@ -121,8 +112,15 @@ impl Solid {
     {
         Ok(Solid {
             sides: Vec::from_slice(alloc, &self.sides)?,
-            vertices: Vec::from_slice(alloc, &self.vertices)?,
-            loops: copy_loops(alloc, &self.loops)?,
+            poly: self.poly.copy(alloc)?,
         })
     }
+}
+
+// The number in fewer bits.
+fn number_as_u32(number: Option<usize>) -> Option<u32>
+    requires small { IfSome number (λ n. n < 2 ^ 32) }
+    ensures { result ≡ number }
+{
+    Some(number? as u32)
 }
