@@ -1,5 +1,5 @@
 -- The polyhedron that is left of the larger cube.
-use Rattle.std.proofs.Common.{◌≡◌, ◌≢◌, ℕ, zero, suc, ◌+◌, ◌^◌, ◌<◌, ◌≤◌, Bool, true, false, List, [], ◌∷◌, ◌++◌, length, get_or, map, take, add-one, refl, sym, ap, subst, ◌∙◌, arith, inl, inr, ◌⊎◌, ⊎_elim, pos, ◌<ℤ◌}
+use Rattle.std.proofs.Common.{◌≡◌, ℕ, zero, suc, ◌+◌, ◌^◌, ◌<◌, ◌≤◌, true, false, List, [], ◌∷◌, ◌++◌, length, get_or, map, take, add-one, refl, sym, ap, subst, ◌∙◌, arith, inl, inr, ◌⊎◌, ⊎_elim, pos, ◌<ℤ◌}
 use Rattle.std.proofs.lemmas.List.{map-append}
 use Rattle.algebra.specs.Members.{◌∈◌, here, there, Every}
 use Rattle.algebra.specs.Space.{Homogeneous, HalfSpace, dot}
@@ -20,7 +20,7 @@ use Rattle.half_poly.proofs.Trimmings.{kept_in}
 use Rattle.half_poly.proofs.CutTrims.{cut_trims, gone_trims, cube_trims}
 use Rattle.half_poly.proofs.Cubing.{solid_is}
 use Rattle.solid_brush.specs.declared.side.Side.{Side}
-use Rattle.solid_brush.specs.Sides.{bounds, half_spaces, DistinctTags, no_sides, one_more_side, HaveTags}
+use Rattle.solid_brush.specs.Sides.{bounds, half_spaces, DistinctTags, one_more_side, HaveTags}
 use Rattle.solid_brush.specs.Cutting.{tagged, all_planes, is_gone}
 use Rattle.solid_brush.proofs.Boxed.{in_last, no_volume_cause}
 

@@ -1,9 +1,9 @@
 -- The sides within the larger cube: what its vertices tell of them.
-use Rattle.std.proofs.Common.{◌≡◌, ◌↔◌, ◌⊎◌, inl, inr, ⊎_elim, ◌≤◌, List, [], ◌∷◌, ◌++◌, length, map, All, Bool, false, IsTrue, refl, sym, ap, ◌∙◌, subst, arith, ℤ, pos, neg_ℤ, ◌*ℤ◌, ◌<ℤ◌, ◌≤ℤ◌}
+use Rattle.std.proofs.Common.{◌≡◌, ◌↔◌, ◌⊎◌, inl, inr, ⊎_elim, List, [], ◌∷◌, ◌++◌, Bool, false, IsTrue, sym, ◌∙◌, arith, ℤ, pos, neg_ℤ, ◌*ℤ◌, ◌<ℤ◌, ◌≤ℤ◌}
 use Rattle.std.proofs.lemmas.Bool.{false≢true}
 use Rattle.std.proofs.lemmas.Int.{ints, by_lt_z}
 use Rattle.algebra.specs.Members.{◌∈◌, here, there, Every}
-use Rattle.algebra.specs.Space.{Homogeneous, HalfSpace, SamePoint, through, dot, cross, minus}
+use Rattle.algebra.specs.Space.{Homogeneous, HalfSpace, SamePoint}
 use Rattle.algebra.specs.World.{InCube, world, reach}
 use Rattle.algebra.proofs.Members.{each_of_none, each_of_more}
 use Rattle.algebra.proofs.Points.{same-in, same_point_sym}
@@ -13,7 +13,7 @@ use Rattle.trim_laws.specs.Valid.{HasInside, NoVolume, OutOfWorld, HasCause, no_
 use Rattle.vertex_laws.specs.Cube.{cube, boxed, VertexOutside}
 use Rattle.vertex_laws.proofs.Cube.{cube_bounded, leaves_cube, in_walls, of_walls}
 use Rattle.vertex_laws.proofs.Box.{box_volume, box_leaves}
-use Rattle.solid_laws.specs.Names.{AreVertices, HoldsVertices}
+use Rattle.solid_laws.specs.Names.{HoldsVertices}
 use Rattle.solid_laws.proofs.BoxVertices.{box_vertices}
 use Rattle.solid_brush.specs.Sides.{IsWithinWorld}
 

@@ -1,9 +1,9 @@
 -- A solid with at most 128 faces has fewer than 2^32 vertices: their names differ.
-use Rattle.std.proofs.Common.{◌≡◌, ℕ, zero, suc, ◌+◌, ◌*◌, ◌^◌, ◌<◌, ◌≤◌, List, [], ◌∷◌, length, map, slice_get, Option, None, Some, IfSome, MatchOption, refl, sym, ap, subst, ◌∙◌, arith}
+use Rattle.std.proofs.Common.{◌≡◌, ℕ, zero, suc, ◌+◌, ◌*◌, ◌^◌, ◌<◌, ◌≤◌, List, [], ◌∷◌, length, map, slice_get, Option, None, Some, IfSome, MatchOption, refl, subst, arith}
 use Rattle.std.proofs.lemmas.Option.{slice_get_within}
 use Rattle.algebra.specs.Members.{◌∈◌, here, there}
-use Rattle.algebra.specs.Space.{Homogeneous, HalfSpace, SamePoint}
-use Rattle.solid_laws.specs.Names.{Triple, IsName, NamedBefore, NamesRise, no_points, one_more_point, AreVertices}
+use Rattle.algebra.specs.Space.{Homogeneous, HalfSpace}
+use Rattle.solid_laws.specs.Names.{Triple, IsName, NamesRise, one_more_point, AreVertices}
 use Rattle.solid_laws.specs.FaceLoop.{IsNumberedLoop, HasVertexCount, HasLoopVertex}
 use Rattle.solid_laws.proofs.Name.{name}
 use Rattle.solid_laws.specs.Laws.{OneName}

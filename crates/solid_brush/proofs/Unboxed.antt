@@ -1,11 +1,11 @@
 -- Where no point lies outside the world, the larger cube adds no side.
-use Rattle.std.proofs.Common.{◌≡◌, List, [], ◌∷◌, ◌++◌, map, refl, sym, ap, subst, ◌∙◌, inl, inr, ◌⊎◌, ⊎_elim}
+use Rattle.std.proofs.Common.{◌≡◌, List, [], ◌∷◌, map, sym, ap, subst, inr, ⊎_elim}
 use Rattle.algebra.specs.Members.{◌∈◌, here, there}
 use Rattle.algebra.specs.Space.{HalfSpace}
 use Rattle.algebra.specs.World.{reach}
 use Rattle.algebra.proofs.Members.{each_of_more}
 use Rattle.trim_laws.specs.Solid.{Proper}
-use Rattle.trim_laws.specs.Trim.{Bears, IsKept, TrimsFaces, TrimFaces, no_faces, keeps_face, drops_face}
+use Rattle.trim_laws.specs.Trim.{Bears, TrimsFaces, TrimFaces, no_faces, keeps_face, drops_face}
 use Rattle.trim_laws.proofs.Once.{bears_in_part}
 use Rattle.vertex_laws.specs.Cube.{cube, boxed}
 use Rattle.vertex_laws.proofs.Box.{Within, wall_idles, box_bears, no_wall, Over, over_more}

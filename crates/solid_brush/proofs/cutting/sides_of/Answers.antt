@@ -1,4 +1,4 @@
-use Rattle.std.proofs.Common.{◌<◌, ◌≤◌, length, subst}
+use Rattle.std.proofs.Common.{◌<◌, ◌≤◌, subst}
 use Rattle.half_poly.specs.Shapes.{Tagged}
 use Rattle.solid_brush.proofs.Faces.{is_there, side_more, sides_all}
 use Rattle.solid_brush.proofs.cutting.sides_of.Goals as goal
