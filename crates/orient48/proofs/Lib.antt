@@ -1,4 +1,5 @@
 pub mod Changed
+pub mod Cutting
 pub mod Entries
 pub mod Following
 pub mod Matrices
@@ -8,5 +9,9 @@ pub mod Parts
 pub mod Planes
 pub mod Quarters
 pub mod Reach
+pub mod Reading
 pub mod Signs
+pub mod Sixteen
+pub mod Spelling
 pub mod Units
+pub mod Wholes

@@ -10,7 +10,10 @@ mod motion;
 mod orient;
 mod row;
 mod tables;
+mod texts;
+mod words;
 
 pub use laws::motions_law;
 pub use motion::Motion;
 pub use orient::Orient;
+pub use texts::{read_motion, write_motion};

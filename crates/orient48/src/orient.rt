@@ -75,6 +75,7 @@ impl Orient {
     // The orientation with this matrix, or `None` where it is no signed permutation.
     pub(crate) fn of_matrix(rows: [[i64; 3]; 3]) -> Option<Orient>
         ensures some { IfSome result (λ orient. matrix_of orient ≡ matrix_in rows) }
+        ensures signed { IfSome result (λ orient. IsTrue (is_signed_permutation (matrix_of orient))) }
         ensures none { IfNone result (is_signed_permutation (matrix_in rows) ≡ false) }
     {
         for number in 0..48 {
