@@ -1,4 +1,3 @@
-pub mod Motions
 pub mod Seen
 pub mod Pairs
 pub mod Lists

@@ -6,7 +6,7 @@ ghost use Rattle.map_nodes.specs.Nodes.{link_of, kind_of, is_frozen, props_of, h
 ghost use Rattle.map_nodes.specs.Pairs.{without_key};
 
 use crate::body::Body;
-use crate::link::Link;
+use crate::link::{Link, copy_link};
 use crate::lists::{copy_of, copy_texts};
 use crate::node_id::NodeId;
 use crate::props::Props;
@@ -250,7 +250,7 @@ impl Node {
                 parent: *parent,
                 mark: *mark,
                 name: Text::of(alloc, name.bytes())?,
-                link: *link,
+                link: copy_link(link),
                 props: props.copy()?,
                 brushes: copy_of(alloc, brushes.list())?,
                 others: copy_of(alloc, others.list())?,

@@ -43,7 +43,7 @@ impl Node {
             } => self.is_group(
                 (*parent, *mark),
                 name,
-                *link,
+                link,
                 props,
                 brushes.list(),
                 others.list(),
@@ -122,12 +122,12 @@ impl Node {
         &self,
         place: (NodeId, Option<u32>),
         its_name: &Text,
-        its_link: Option<Link>,
+        its_link: &Option<Link>,
         its_props: &Props,
         its_brushes: &[NodeId],
         its_others: &[NodeId],
     ) -> bool
-        ensures { Decides result (self.now ≡ Group place.0 place.1 its_name.now its_link its_props.now its_brushes.now its_others.now) }
+        ensures { Decides result (self.now ≡ Group place.0 place.1 its_name.now its_link.now its_props.now its_brushes.now its_others.now) }
     {
         match self {
             Node::World { .. } => false,
@@ -144,7 +144,7 @@ impl Node {
                 (*parent == place.0)
                     & (*mark == place.1)
                     & (name.bytes() == its_name.bytes())
-                    & same_link(*link, its_link)
+                    & same_link(link, its_link)
                     & props.is_same(its_props)
                     & same_ids(brushes.list(), its_brushes)
                     & same_ids(others.list(), its_others)

@@ -11,6 +11,7 @@ pub mod Quarters
 pub mod Reach
 pub mod Reading
 pub mod Signs
+pub mod Same
 pub mod Sixteen
 pub mod Spelling
 pub mod Units

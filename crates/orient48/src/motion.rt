@@ -1,6 +1,7 @@
 //! Motions: an orientation and then a shift.
 
 ghost use Rattle.std.specs.Prelude.{◌≡◌, ◌≢◌, ◌≤◌, ◌+ℤ◌, ◌*ℤ◌, negsuc, Err, IsTrue, unsigned_abs};
+ghost use Rattle.std.specs.Bool.{Decides};
 ghost use Rattle.algebra.specs.Space.{plus, scale};
 ghost use Rattle.exact_geom.specs.Planes.{is_in_range, parts};
 ghost use Rattle.orient48.specs.Kept.{motion_at, place_of_fault, vector_in, within_limit, within_reach};
@@ -44,6 +45,23 @@ impl Motion {
         } else {
             None
         }
+    }
+
+    /// An equal motion.
+    pub fn copy(&self) -> Motion
+        ensures { result ≡ self.now }
+    {
+        Motion {
+            orient: self.orient,
+            shift: self.shift,
+        }
+    }
+
+    /// Whether two motions have the same matrix and the same shift.
+    pub fn is_same(&self, other: &Motion) -> bool
+        ensures { Decides result (self.now ≡ other.now) }
+    {
+        (self.orient.number() == other.orient.number()) & (self.shift == other.shift)
     }
 
     /// Its orientation.
