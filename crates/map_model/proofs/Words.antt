@@ -9,6 +9,12 @@ use Rattle.uv_lock.specs.declared.texture.Format.{Format}
 use Rattle.std.specs.Fmt.{digits}
 use Rattle.fixed_num.specs.Count.{is_number_word, count_of}
 use Rattle.fixed_num.specs.Scan.{scan, scan_unsigned, scan_power, written_power, short_number}
+use Rattle.cmd_text.specs.Lines.{line_text}
+use Rattle.cmd_text.specs.Pieces.{words_left, cut_of}
+use Rattle.cmd_text.specs.Reading.{verb_of, is_silent, words_read, line_read}
+use Rattle.cmd_text.specs.Replies.{reply_line}
+use Rattle.cmd_text.specs.Spelling.{number_of, number_within, signed_of, whole_within, plain_number_within, grid_of, axis_of, part_of, switch_of, is_name, is_dash, count_below, wide_of}
+use Rattle.cmd_text.specs.Table.{fits, group_of, misfit_of}
 use Rattle.map_model.specs.Tree.{Whole, Node, Link, whole, at, all_numbers}
 use Rattle.map_model.specs.Motions.{Matrix}
 use Rattle.map_model.specs.Faces.{Face, Surface, StandardFields, ValveFields}
@@ -26,7 +32,7 @@ pub data Open : Type 0 where
   opened : Open
 
 unfoldable pub all_words : Open
-unfolding dot cross scale plus minus det side through whole_point meet way turn digits base_axes_of is_number_word count_of scan scan_unsigned scan_power written_power short_number
+unfolding dot cross scale plus minus det side through whole_point meet way turn digits base_axes_of is_number_word count_of scan scan_unsigned scan_power written_power short_number words_left cut_of verb_of is_silent words_read line_read number_of number_within signed_of whole_within plain_number_within grid_of axis_of part_of switch_of is_name is_dash count_below wide_of fits group_of misfit_of line_text reply_line
 all_words = opened
 
 abbrev pub pt : ℤ → ℤ → ℤ → Point

@@ -1,12 +1,10 @@
 -- The map that a document is built as, with its notes.
-use Rattle.std.specs.Prelude.{ℕ, zero, suc, ◌+◌, ◌-◌, Bool, true, false, cond, not, ◌&&◌, ◌||◌, ◌==◌, nat_lt, nat_le, List, [], ◌∷◌, ◌++◌, length, map, filter, flat_map, Option, None, Some, is_some, is_none, option_map, option_and_then, option_to_list, unwrap_or, Result, Ok, Err, codes, ℤ, pos, int_div, int_rem}
+use Rattle.std.specs.Prelude.{ℕ, zero, suc, ◌+◌, ◌-◌, Bool, true, false, cond, not, ◌&&◌, ◌||◌, ◌==◌, nat_lt, nat_le, List, [], ◌∷◌, ◌++◌, length, map, filter, flat_map, Option, None, Some, is_some, is_none, option_and_then, option_to_list, unwrap_or, Result, Ok, Err, codes}
 use Rattle.std.specs.Option.{option_map_or}
 use Rattle.std.specs.List.{list_any, list_all, find, enumerate_from}
 use Rattle.std.specs.Char.{is_ascii_digit}
-use Rattle.std.specs.Ordering.{int_eq}
 use Rattle.std.specs.Str.{bytes_eq}
 use Rattle.std.specs.Str.Parse.{digits_value}
-use Rattle.fixed_num.specs.Count.{is_number_word, count_of}
 use Rattle.uv_lock.specs.declared.texture.Format.{Format}
 use Rattle.map_text.specs.declared.document.MapDoc.{MapDoc}
 use Rattle.map_text.specs.declared.document.RawEntity.{RawEntity}
@@ -15,12 +13,12 @@ use Rattle.map_text.specs.declared.document.RawBrush.TheVariants.{Faces, Bad}
 use Rattle.map_text.specs.declared.document.Reason.{Reason}
 use Rattle.map_text.specs.declared.document.Reason.TheVariants.{Volume, World as World, Faces as TooManyFaces}
 use Rattle.map_model.specs.Faces.{Face}
-use Rattle.map_model.specs.Motions.{Motion, Matrix, stay, vector_at, is_kept_motion}
+use Rattle.orient48.specs.MotionTexts.{read_motion}
+use Rattle.map_model.specs.Motions.{Motion, stay, between}
 use Rattle.map_model.specs.Tree.{Whole, Node, World as TheWorld, Layer, Group, Entity, Brush, Props, Kind, world, layer, group, entity, brush, whole, same_kind, content, with_link, with_mark, among}
 use Rattle.map_model.specs.Edits.{each_in_turn, renew, numbered_from}
 use Rattle.map_model.specs.Props.{value_at, is_text_among, is_reserved_key, classname}
 use Rattle.map_model.specs.Shape.{half_spaces, taken_keys}
-use Rattle.map_model.specs.Origins.{words_of}
 use Rattle.map_model.specs.Below.{Below}
 use Rattle.map_model.specs.Brushes.{trimmed, first_of_each}
 use Rattle.map_model.specs.Links.{is_one_content}
@@ -176,32 +174,6 @@ without_empty (suc k) parent items = without_empty k parent (filter (λ x. not (
 
 -- Link candidates. -------------------------------------------------------------------------------------------------------------------------------------
 
--- A whole number as it is rounded to six decimals.
-abbrev pub whole_in : List ℕ → Option ℤ
-whole_in w =
-    let count = count_of 6 w in
-    cond (is_number_word w && int_eq (int_rem count (pos 1000000)) (pos 0)) (Some (int_div count (pos 1000000))) None
-
-abbrev pub wholes_in : List (List ℕ) → Option (List ℤ)
-wholes_in [] = Some []
-wholes_in (w ∷ ws) = option_and_then (λ n. option_map (λ ns. n ∷ ns) (wholes_in ws)) (whole_in w)
-
-abbrev pub kept_motion : Motion → Option Motion
-kept_motion r = cond (is_kept_motion r) (Some r) None
-
-abbrev pub is_last_row : ℤ → ℤ → ℤ → ℤ → Bool
-is_last_row x y z w = int_eq x (pos 0) && (int_eq y (pos 0) && (int_eq z (pos 0) && int_eq w (pos 1)))
-
--- Sixteen numbers, row by row: a signed permutation with its shift, and the last row 0 0 0 1.
-abbrev pub motion_of_numbers : List ℤ → Option Motion
-motion_of_numbers (a ∷ b ∷ c ∷ x ∷ d ∷ e ∷ f ∷ y ∷ g ∷ h ∷ i ∷ z ∷ p ∷ q ∷ r ∷ s ∷ []) =
-    cond (is_last_row p q r s)
-    (kept_motion (record { matrix = record { x = vector_at a b c; y = vector_at d e f; z = vector_at g h i }; shift = vector_at x y z })) None
-motion_of_numbers numbers = None
-
-abbrev pub read_motion : List ℕ → Option Motion
-read_motion text = option_and_then motion_of_numbers (wholes_in (words_of text))
-
 abbrev pub motion_in : Item → Option Motion
 motion_in x = elim (value_at (codes "_tb_transformation") x.props) [ None ↦ Some stay | Some text ↦ read_motion text ]
 
@@ -303,7 +275,7 @@ sets_of cs = map (of_set cs) (first_of_each (λ c d. bytes_eq c.set d.set) cs)
 
 -- Each two members are one content, marks left out.
 abbrev pub agree : Whole → (ℕ → ℕ) → Candidate → Candidate → Bool
-agree m number c d = is_one_content m false (Rattle.map_model.specs.Motions.between c.motion d.motion) (number c.place) (number d.place)
+agree m number c d = is_one_content m false (between c.motion d.motion) (number c.place) (number d.place)
 
 abbrev pub all_agree : Whole → (ℕ → ℕ) → List Candidate → Bool
 all_agree m number [] = true

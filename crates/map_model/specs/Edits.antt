@@ -2,9 +2,9 @@
 pub use Rattle.map_nodes.specs.declared.entry.Entry.{Entry}
 pub use Rattle.map_nodes.specs.Lists.{without, in_place}
 pub use Rattle.map_nodes.specs.Nodes.{relist, renumber}
-use Rattle.std.specs.Prelude.{◌≢◌, ℕ, ◌+◌, ◌<◌, length, get_or, List, [], ◌∷◌, ◌++◌, map, filter, filter_map, flat_map, Bool, cond, not, ◌==◌, Option, Some, None, option_map, unwrap_or}
+use Rattle.std.specs.Prelude.{◌≢◌, ℕ, ◌+◌, ◌<◌, length, get_or, List, [], ◌∷◌, ◌++◌, map, filter_map, cond, ◌==◌, Option, Some, None, option_map, unwrap_or}
 use Rattle.map_model.specs.Faces.{Face}
-use Rattle.map_model.specs.Tree.{Whole, Node, World, Layer, Group, Entity, Brush, at, up, preorder, is_brush, brushes_of, others_of, with_brushes, with_others, with_parent, numbers_from}
+use Rattle.map_model.specs.Tree.{Whole, Node, Brush, at, up, preorder, is_brush, with_parent, numbers_from}
 
 -- The map with another node, or none, at a number.
 abbrev pub set : Whole → ℕ → Option Node → Whole

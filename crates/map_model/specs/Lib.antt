@@ -8,6 +8,7 @@ pub mod Carry
 pub mod Origins
 pub mod Below
 pub mod Commands
+pub mod Replies
 pub mod Brushes
 pub mod Loops
 pub mod Rays
@@ -16,7 +17,6 @@ pub mod Rows
 pub mod Own
 pub mod Apply
 pub mod Computed
-pub mod Lines
 pub mod Listings
 pub mod Machine
 pub mod Session

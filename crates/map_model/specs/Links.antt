@@ -15,7 +15,7 @@ use Rattle.map_model.specs.Carry.{carry}
 use Rattle.map_model.specs.Origins.{read_origin, moved_counts, moved_props, is_origin_stuck}
 use Rattle.map_model.specs.Below.{Below}
 use Rattle.map_model.specs.Brushes.{is_same_half_space, first_place, first_beyond}
-use Rattle.map_model.specs.Commands.{Refusal, LinkPoint, LinkWorld, LinkLock, LinkOrigin, LinkShift}
+use Rattle.map_model.specs.Replies.{Refusal, LinkPoint, LinkWorld, LinkLock, LinkOrigin, LinkShift}
 
 -- One content: five conditions, each by what a motion r makes of the nodes of one content and what stands in the other. -----------------
 

@@ -3,9 +3,9 @@ pub use Rattle.map_nodes.specs.Nodes.{has_own_props as has_props}
 use Rattle.std.specs.Prelude.{ℕ, ◌+◌, Bool, true, false, cond, not, ◌&&◌, ◌||◌, ◌==◌, nat_lt, List, [], ◌∷◌, ◌++◌, length, map, filter, flat_map, count_by, Option, None, Some, is_some, is_none, option_map, option_to_list, codes, ℤ, ◌+ℤ◌, ◌-ℤ◌, int_lt, int_le}
 use Rattle.std.specs.List.{find, list_any, list_all}
 use Rattle.std.specs.Str.{bytes_eq}
-use Rattle.algebra.specs.Space.{Homogeneous}
+use Rattle.algebra.specs.Space.{Vector, Homogeneous}
 use Rattle.exact_geom.specs.declared.point.Point.{Point}
-use Rattle.exact_geom.specs.Planes.{ThreePoints, vector, half_space, is_flat, is_in_range}
+use Rattle.exact_geom.specs.Planes.{ThreePoints, half_space, is_flat, is_in_range}
 use Rattle.map_model.specs.Faces.{Face, Tex, StandardFields, ValveFields}
 use Rattle.map_model.specs.Motions.{Motion, stay, shifting, turning, flipping, after, is_short, moved_plane}
 use Rattle.map_model.specs.Tree.{Whole, Kind, world, layer, group, entity, brush, at, has, kind_of, is_kind, is_brush, is_linked, is_frozen, set_at, props_at, protected_at, faces_at, brushes_at, format_of, above, preorder, content, over, container, among, lies_beneath, is_one_number, all_brushes}
@@ -14,7 +14,8 @@ use Rattle.map_model.specs.Carry.{lost_offset, plain_tex, is_quarter}
 use Rattle.map_model.specs.Origins.{is_origin_stuck}
 use Rattle.map_model.specs.Below.{Below}
 use Rattle.map_model.specs.Brushes.{trimmed, has_inside, reversed_plane, pieces, box_planes, is_box, distinct_points, is_point_among, spans_space, facets, is_whole, as_point, vertices_of, are_whole, rounded, picked, moved_by, changed_points, changed_faces, first_place, first_beyond, is_outside_world, have_one_half_space}
-use Rattle.map_model.specs.Commands.{Part, Front, Back, Both, Settings, Refusal, NoNode, Repeated, WrongKind, NestedIds, LockedLayer, TwoMembers, ReservedKey, NoKey, NotLinked, NestedLink, Rotation, FlatPlane, PlaneMisses, Apart, NotBox, Thick, NoVertex, FractionalVertex, TooManyPoints, PointRange, NoVolume, TooManyFaces, OutOfWorld, LockOffset, Origin, ShiftRange, Command, Box, Hull, Delete, Copy, Move, Turn, Flip, Clip, Subtract, Intersect, Merge, Hollow, Vertex, Snap, Tex as SetTex, Uv, Convert, Set, Unset, Tie, Untie, Freeze, Thaw, Group as MakeGroup, Ungroup, Into, Link as MakeLink, Unlink, Protect, Unprotect, Show, Touching}
+use Rattle.map_model.specs.Commands.{Part, Front, Back, Both, vector_in, point_in, plane_in, points_in, Settings, Command, Box, Hull, Delete, Copy, Move, Turn, Flip, Clip, Subtract, Intersect, Merge, Hollow, Vertex, Snap, Tex as SetTex, Uv, Convert, Set, Unset, Tie, Untie, Freeze, Thaw, Group as MakeGroup, Ungroup, Into, Link as MakeLink, Unlink, Protect, Unprotect, Show, Touching}
+use Rattle.map_model.specs.Replies.{kept, Refusal, NoNode, Repeated, WrongKind, NestedIds, LockedLayer, TwoMembers, ReservedKey, NoKey, NotLinked, NestedLink, Rotation, FlatPlane, PlaneMisses, Apart, NotBox, Thick, NoVertex, FractionalVertex, TooManyPoints, PointRange, NoVolume, TooManyFaces, OutOfWorld, LockOffset, Origin, ShiftRange}
 use Rattle.map_model.specs.Links.{motion_at}
 
 -- Words for rows. ----------------------------------------------------------------------------------------------------------------------
@@ -87,9 +88,9 @@ taken c = []
 
 -- The motion of a command that moves nodes, and the nodes that it moves or copies.
 abbrev pub motion_of : Command → Motion
-motion_of (Copy shift ns) = shifting shift
-motion_of (Move shift ns) = shifting shift
-motion_of (Turn axis quarters about ns) = turning axis quarters (vector about)
+motion_of (Copy shift ns) = shifting (vector_in shift)
+motion_of (Move shift ns) = shifting (vector_in shift)
+motion_of (Turn axis quarters about ns) = turning axis quarters (vector_in about)
 motion_of (Flip axis c ns) = flipping axis c
 motion_of c = stay
 
@@ -285,7 +286,7 @@ rotation m (Uv n face point) = at_each_face m n (λ k f. cond (k == face) (rotat
 rotation m c = None
 
 abbrev pub flat_plane : Command → Option Refusal
-flat_plane (Clip part plane ns) = refuse (is_flat plane) FlatPlane
+flat_plane (Clip part plane ns) = refuse (is_flat (plane_in plane)) FlatPlane
 flat_plane c = None
 
 -- A face with plain fields, in the current material.
@@ -304,7 +305,7 @@ front_part s m plane n = faces_at m n ++ plain_face s m (reversed_plane plane) �
 
 abbrev pub plane_misses : Below → Settings → Whole → Command → Option Refusal
 plane_misses b s m (Clip part plane ns) =
-    at_each ns (λ n. refuse (not (has_inside b (back_part s m plane n) && has_inside b (front_part s m plane n))) (PlaneMisses n))
+    at_each ns (λ n. refuse (not (has_inside b (back_part s m (plane_in plane) n) && has_inside b (front_part s m (plane_in plane) n))) (PlaneMisses n))
 plane_misses b s m c = None
 
 -- The faces of all the brushes, in order.
@@ -346,7 +347,7 @@ abbrev pub at_each_pick : ℕ → List Point → (Point → Bool) → (ℕ → R
 at_each_pick k picks row refusal = option_map refusal (first_place row k picks)
 
 abbrev pub no_vertex : Below → Whole → Command → Option Refusal
-no_vertex b m (Vertex n shift picks) = at_each_pick 1 picks (λ p. not (is_vertex b (faces_at m n) p)) NoVertex
+no_vertex b m (Vertex n shift picks) = at_each_pick 1 (points_in picks) (λ p. not (is_vertex b (faces_at m n) p)) NoVertex
 no_vertex b m c = None
 
 abbrev pub fractional_vertex : Below → Whole → Command → Option Refusal
@@ -356,7 +357,7 @@ fractional_vertex b m c = None
 
 -- The distinct points of which `hull` and `merge` make a brush.
 abbrev pub hull_points : Below → Whole → Command → List Point
-hull_points b m (Hull points) = distinct_points points
+hull_points b m (Hull points) = distinct_points (points_in points)
 hull_points b m (Merge ns) = distinct_points (flat_map (λ n. map as_point (vertices_of b (faces_at m n))) ns)
 hull_points b m c = []
 
@@ -370,22 +371,27 @@ abbrev pub beyond : ℕ → (ThreePoints → ThreePoints) → List Face → Opti
 beyond n move fs = option_map (PointRange n) (first_beyond move fs)
 
 abbrev pub point_range : Settings → Whole → Command → Option Refusal
-point_range s m (Box x y) = beyond 0 (λ t. t) (map (plain_face s m) (box_planes x y))
-point_range s m (Vertex n shift picks) = at_each_pick 1 picks (λ p. not (is_in_range (moved_by shift.x shift.y shift.z p))) (PointRange n)
+point_range s m (Box x y) = beyond 0 (λ t. t) (map (plain_face s m) (box_planes (point_in x) (point_in y)))
+point_range s m (Vertex n shift picks) =
+    let v = vector_in shift in at_each_pick 1 (points_in picks) (λ p. not (is_in_range (moved_by v.x v.y v.z p))) (PointRange n)
 point_range s m c = at_each (all_moved_of m brush c) (λ n. beyond n (moved_plane (motion_of c)) (faces_at m n))
 
 -- How `vertex` and `snap` change vertices.
 abbrev pub change_of : Command → Homogeneous → Point
-change_of (Vertex n shift picks) = picked shift picks
+change_of (Vertex n shift picks) = picked (vector_in shift) (points_in picks)
 change_of (Snap grid ns) = rounded grid
 change_of c = as_point
 
 abbrev pub is_flat_change : Below → Whole → Command → ℕ → Bool
 is_flat_change b m c n = not (spans_space (changed_points b (change_of c) (faces_at m n)))
 
+-- Each coordinate of the first is below that of the second.
+abbrev pub is_below_each : Vector → Vector → Bool
+is_below_each v w = int_lt v.x w.x && (int_lt v.y w.y && int_lt v.z w.z)
+
 abbrev pub no_volume : Below → Whole → Command → Option Refusal
-no_volume b m (Box x y) = refuse (not (int_lt x.x y.x && (int_lt x.y y.y && int_lt x.z y.z))) (NoVolume 0)
-no_volume b m (Hull points) = refuse (not (spans_space (distinct_points points))) (NoVolume 0)
+no_volume b m (Box x y) = refuse (not (is_below_each (vector_in x) (vector_in y))) (NoVolume 0)
+no_volume b m (Hull points) = refuse (not (spans_space (distinct_points (points_in points)))) (NoVolume 0)
 no_volume b m (Vertex n shift picks) = refuse (is_flat_change b m (Vertex n shift picks) n) (NoVolume n)
 no_volume b m (Snap grid ns) = at_each ns (λ n. refuse (is_flat_change b m (Snap grid ns) n) (NoVolume n))
 no_volume b m c = None
@@ -421,28 +427,28 @@ abbrev pub too_many : ℕ → List Face → Option Refusal
 too_many n fs = let count = length fs in refuse (nat_lt 128 count) (TooManyFaces n count)
 
 abbrev pub too_many_faces : Below → Settings → Whole → Command → Option Refusal
-too_many_faces b s m (Hull points) = too_many 0 (hull_faces s m points)
-too_many_faces b s m (Clip part plane ns) = at_each ns (λ n. at_each (clip_results b s m part plane n) (too_many n))
+too_many_faces b s m (Hull points) = too_many 0 (hull_faces s m (points_in points))
+too_many_faces b s m (Clip part plane ns) = at_each ns (λ n. at_each (clip_results b s m part (plane_in plane) n) (too_many n))
 too_many_faces b s m (Subtract by ns) = at_each ns (λ n. at_each (pieces b (faces_at m n) (faces_at m by)) (too_many n))
 too_many_faces b s m (Intersect ns) = too_many (first_of ns) (intersection b m ns)
 too_many_faces b s m (Merge ns) = too_many (first_of ns) (merged b s m ns)
-too_many_faces b s m (Vertex n shift picks) = too_many n (changed_faces b (picked shift picks) (faces_at m n))
+too_many_faces b s m (Vertex n shift picks) = too_many n (changed_faces b (picked (vector_in shift) (points_in picks)) (faces_at m n))
 too_many_faces b s m (Snap grid ns) = at_each ns (λ n. too_many n (changed_faces b (rounded grid) (faces_at m n)))
 too_many_faces b s m c = None
 
 -- Motions. -------------------------------------------------------------------------------------------------------------------------------
 
 abbrev pub out_of_world : Below → Settings → Whole → Command → Option Refusal
-out_of_world b s m (Box x y) = refuse (b.leaves_world (map half_space (box_planes x y))) (OutOfWorld 0)
-out_of_world b s m (Hull points) = refuse (list_any is_outside_world points) (OutOfWorld 0)
-out_of_world b s m (Vertex n shift picks) = refuse (list_any is_outside_world (changed_points b (picked shift picks) (faces_at m n))) (OutOfWorld n)
+out_of_world b s m (Box x y) = refuse (b.leaves_world (map half_space (box_planes (point_in x) (point_in y)))) (OutOfWorld 0)
+out_of_world b s m (Hull points) = refuse (list_any is_outside_world (points_in points)) (OutOfWorld 0)
+out_of_world b s m (Vertex n shift picks) = refuse (list_any is_outside_world (changed_points b (picked (vector_in shift) (points_in picks)) (faces_at m n))) (OutOfWorld n)
 out_of_world b s m c =
     at_each (all_moved_of m brush c) (λ n. refuse (b.leaves_world (map (λ f. half_space (moved_plane (motion_of c) f.plane)) (faces_at m n))) (OutOfWorld n))
 
 abbrev pub lock_offset : Settings → Whole → Command → Option Refusal
 lock_offset s m c =
     at_each (all_moved_of m brush c) (λ n.
-    cond (is_locked s m c n) (at_each_face m n (λ k f. option_map (LockOffset n k) (lost_offset (motion_of c) f.tex))) None)
+    cond (is_locked s m c n) (at_each_face m n (λ k f. option_map (λ offset. LockOffset n k (kept offset)) (lost_offset (motion_of c) f.tex))) None)
 
 abbrev pub stuck_origin : Whole → Command → Option Refusal
 stuck_origin m c = at_each (all_moved_of m entity c) (λ n. refuse (is_origin_stuck (motion_of c) (props_at m n)) (Origin n))
@@ -452,7 +458,7 @@ abbrev pub is_shift_kept : Whole → Motion → ℕ → Bool
 is_shift_kept m r g = is_short (after r (motion_at m g)).shift
 
 abbrev pub shift_range : Whole → Command → Option Refusal
-shift_range m (MakeLink g shift) = refuse (not (is_shift_kept m (shifting shift) g)) (ShiftRange g)
+shift_range m (MakeLink g shift) = refuse (not (is_shift_kept m (shifting (vector_in shift)) g)) (ShiftRange g)
 shift_range m c =
     at_each (filter (is_linked m) (all_moved m c)) (λ g. refuse (moves_links c && not (is_shift_kept m (motion_of c) g)) (ShiftRange g))
 

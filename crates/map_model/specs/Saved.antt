@@ -1,15 +1,13 @@
 -- The document that a map is saved as.
 use Rattle.std.specs.Prelude.{ℕ, Bool, true, false, cond, not, ◌==◌, ◌||◌, List, [], ◌∷◌, ◌++◌, map, filter, filter_map, Option, None, Some, option_map, codes, ◌+◌}
-use Rattle.std.specs.List.{join_with_byte}
-use Rattle.std.specs.Fmt.{decimal, signed_decimal}
-use Rattle.algebra.specs.Space.{Vector}
+use Rattle.std.specs.Fmt.{decimal}
 use Rattle.uv_lock.specs.declared.texture.Format.{Format}
 use Rattle.uv_lock.specs.declared.texture.Format.TheVariants.{Standard, Valve}
 use Rattle.map_text.specs.declared.document.MapDoc.{MapDoc}
 use Rattle.map_text.specs.declared.document.RawEntity.{RawEntity}
 use Rattle.map_text.specs.declared.document.RawBrush.{RawBrush}
 use Rattle.map_text.specs.declared.document.RawBrush.TheVariants.{Faces}
-use Rattle.map_model.specs.Motions.{Motion}
+use Rattle.orient48.specs.MotionTexts.{motion_text}
 use Rattle.map_model.specs.Tree.{Whole, Node, World, Layer, Group, Entity, Brush, Link, Props, layer, group, at, is_kind, is_brush, set_at, preorder, brushes_at, faces_at, format_of}
 use Rattle.map_model.specs.Props.{classname}
 use Rattle.map_model.specs.Shape.{joined_keys}
@@ -39,16 +37,6 @@ sets_in_order m = first_of_each ◌==◌ (filter_map (set_at m) (entities m))
 
 abbrev pub set_id : Whole → ℕ → List ℕ
 set_id m s = decimal (count_to s (sets_in_order m))
-
--- Sixteen numbers row by row, with one blank between.
-abbrev pub row_words : Vector → (shift : List ℕ) → List (List ℕ)
-row_words v shift = signed_decimal v.x ∷ signed_decimal v.y ∷ signed_decimal v.z ∷ shift ∷ []
-
-abbrev pub motion_text : Motion → List ℕ
-motion_text r =
-    join_with_byte 32
-    (row_words r.matrix.x (signed_decimal r.shift.x) ++ row_words r.matrix.y (signed_decimal r.shift.y)
-    ++ row_words r.matrix.z (signed_decimal r.shift.z) ++ codes "0" ∷ codes "0" ∷ codes "0" ∷ codes "1" ∷ [])
 
 -- Properties in a file. ------------------------------------------------------------------------------------------------------------------------
 

@@ -3,12 +3,11 @@ pub use Rattle.map_nodes.specs.Nodes.{Props, Kind, world, layer, group, entity, 
 pub use Rattle.map_nodes.specs.declared.link.Link.{Link}
 pub use Rattle.map_nodes.specs.declared.node.Node.{Node}
 pub use Rattle.map_nodes.specs.declared.node.Node.TheVariants.{World, Layer, Group, Entity, Brush}
-use Rattle.std.specs.Prelude.{ℕ, ◌+◌, suc, zero, List, [], ◌∷◌, ◌++◌, flat_map, filter, Bool, true, false, cond, not, ◌==◌, ◌&&◌, Option, Some, None, is_some, option_map, option_and_then, unwrap_or}
+use Rattle.std.specs.Prelude.{ℕ, ◌+◌, suc, zero, List, [], ◌∷◌, ◌++◌, flat_map, filter, Bool, false, cond, not, ◌==◌, ◌&&◌, Option, Some, None, is_some, option_map, option_and_then, unwrap_or}
 use Rattle.std.specs.List.{find, list_any}
 use Rattle.uv_lock.specs.declared.texture.Format.{Format}
 use Rattle.uv_lock.specs.declared.texture.Format.TheVariants.{Standard}
 use Rattle.map_model.specs.Faces.{Face}
-use Rattle.map_model.specs.Motions.{Motion}
 
 -- A whole map: the node of each number, or none, and the next number. Number 0 is the world. Two maps are equal where these are.
 pub record Whole : Type 0 where

@@ -1,5 +1,5 @@
 -- Properties as they are held: what is put in, taken out, found and copied.
-use Rattle.std.proofs.Common.{◌≡◌, ℕ, ◌==◌, Bool, true, false, not, cond, List, [], ◌∷◌, ◌++◌, map, filter, Option, Some, None, is_some, option_map, Vec, vec_len, ap, ap₂, sym, ◌∙◌, refl}
+use Rattle.std.proofs.Common.{◌≡◌, ℕ, Bool, true, false, not, cond, List, [], ◌∷◌, Option, Some, None, is_some, option_map, Vec, vec_len, ap, ap₂, sym, ◌∙◌, refl}
 use Rattle.std.specs.Str.{bytes_eq}
 use Rattle.std.specs.List.{AllZip, each_same}
 use Rattle.std.specs.Map.{lookup}

@@ -1,3 +1,4 @@
 pub mod Copies
 pub mod Distinct
 pub mod SameParts
+pub mod Fractions

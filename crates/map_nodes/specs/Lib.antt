@@ -2,3 +2,4 @@ pub mod Seen
 pub mod Pairs
 pub mod Lists
 pub mod Nodes
+pub mod Fractions

@@ -1,5 +1,5 @@
 -- Words on nodes.
-use Rattle.std.specs.Prelude.{ℕ, List, [], ◌∷◌, map, Bool, true, false, cond, nat_eq, Option, None, Some, unwrap_or}
+use Rattle.std.specs.Prelude.{ℕ, List, [], map, Bool, true, false, cond, nat_eq, Option, None, Some, unwrap_or}
 use Rattle.std.specs.HashMap.{HashMap, get}
 use Rattle.uv_lock.specs.declared.texture.Format.{Format}
 use Rattle.uv_lock.specs.declared.face.Face.{Face}

@@ -1,4 +1,4 @@
-use Rattle.std.proofs.Common.{ap, sym, not, ◌∙◌, arith}
+use Rattle.std.proofs.Common.{sym, ◌∙◌, arith}
 use Rattle.std.specs.Cmp.Lexicographic.{same_text}
 use Rattle.map_nodes.proofs.SameParts.{same_more, not_not}
 use Rattle.map_nodes.proofs.lists.same_texts.Goals as goal

@@ -1,4 +1,4 @@
-use Rattle.std.proofs.Common.{ap, ap₂, subst, sym, ◌∙◌, arith}
+use Rattle.std.proofs.Common.{arith}
 use Rattle.std.proofs.lemmas.Bool.Decides.{not_from_Decides}
 use Rattle.map_nodes.proofs.SameParts.{other_item, same_more, it_is_not}
 use Rattle.map_nodes.proofs.same_faces.same_faces.Goals as goal

@@ -1,9 +1,9 @@
-use Rattle.std.proofs.Common.{◌≡◌, Some, option_map, is_some, ap, ap₂, sym, ◌∙◌}
-use Rattle.map_text.specs.Meaning.{put_property, value_of_key}
-use Rattle.map_nodes.specs.Pairs.{pairs_of, without_key}
+use Rattle.std.proofs.Common.{ap, ap₂, ◌∙◌}
+use Rattle.map_text.specs.Meaning.{put_property}
+use Rattle.map_nodes.specs.Pairs.{pairs_of}
 use Rattle.map_text.specs.Spelled.{keys_are_distinct}
-use Rattle.map_nodes.proofs.Distinct.{put_distinct, without_distinct}
-use Rattle.map_nodes.proofs.Copies.{found, is_found, taken_out, inserted, cloned}
+use Rattle.map_nodes.proofs.Distinct.{put_distinct}
+use Rattle.map_nodes.proofs.Copies.{inserted}
 use Rattle.map_nodes.proofs.props.Props.set.Goals as goal
 
 pub returns-in-Ok-clause-ok : goal.returns-in-Ok-clause-ok

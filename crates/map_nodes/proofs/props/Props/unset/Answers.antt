@@ -1,11 +1,11 @@
-use Rattle.std.proofs.Common.{◌≡◌, Some, option_map, is_some, ap, ap₂, sym, ◌∙◌}
+use Rattle.std.proofs.Common.{is_some, ap, sym, ◌∙◌}
 use Rattle.std.specs.Str.{bytes_eq}
 use Rattle.std.specs.Map.{lookup}
-use Rattle.map_text.specs.Meaning.{put_property, value_of_key}
+use Rattle.map_text.specs.Meaning.{value_of_key}
 use Rattle.map_nodes.specs.Pairs.{pairs_of, without_key}
 use Rattle.map_text.specs.Spelled.{keys_are_distinct}
-use Rattle.map_nodes.proofs.Distinct.{put_distinct, without_distinct}
-use Rattle.map_nodes.proofs.Copies.{found, is_found, taken_out, inserted, cloned}
+use Rattle.map_nodes.proofs.Distinct.{without_distinct}
+use Rattle.map_nodes.proofs.Copies.{is_found, taken_out}
 use Rattle.map_nodes.proofs.props.Props.unset.Goals as goal
 
 pub returns-clause-was : goal.returns-clause-was
