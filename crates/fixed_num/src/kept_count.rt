@@ -16,6 +16,7 @@ pub(crate) struct KeptCount {
 }
 
 // The count of a number word without an exponent and with a short whole part, as most are.
+#[inline(always)]
 fn read_plain_count(word: &[u8], decimals: u32) -> Option<KeptCount>
     requires few { decimals ≤ 12 }
     ensures { IfSome result (λ kept. KeepsCount decimals word.now kept.negative kept.size) }
@@ -28,8 +29,23 @@ fn read_plain_count(word: &[u8], decimals: u32) -> Option<KeptCount>
     Some(KeptCount { negative, size })
 }
 
+// The count of any number word. Apart, so that the short way to most counts can stand where they are read.
+#[inline(never)]
+fn read_any_count(word: &[u8], decimals: u32) -> Option<KeptCount>
+    requires few { decimals ≤ 12 }
+    ensures { MatchOption result (¬ IsNumberWord word.now)
+        (λ kept. KeepsCount decimals word.now kept.negative kept.size) }
+{
+    let number = read_number(word)?;
+    Some(KeptCount {
+        negative: number.negative,
+        size: rounded(&number, decimals),
+    })
+}
+
 /// The value of a number word in units of so many decimals, rounded half away from zero; `None` for any
 /// other word.
+#[inline(always)]
 pub(crate) fn read_kept_count(word: &[u8], decimals: u32) -> Option<KeptCount>
     requires few { decimals ≤ 12 }
     ensures { MatchOption result (¬ IsNumberWord word.now)
@@ -38,9 +54,5 @@ pub(crate) fn read_kept_count(word: &[u8], decimals: u32) -> Option<KeptCount>
     if let Some(count) = read_plain_count(word, decimals) {
         return Some(count);
     }
-    let number = read_number(word)?;
-    Some(KeptCount {
-        negative: number.negative,
-        size: rounded(&number, decimals),
-    })
+    read_any_count(word, decimals)
 }

@@ -11,6 +11,7 @@ const MAX_DIGITS: usize = 18;
 
 // The number that a value and the digits at the front write together, and how many these are. It stops
 // at the first byte that is no digit, and behind so many.
+#[inline(always)]
 fn continued(value: u64, bytes: &[u8], most: usize) -> (u64, usize)
     requires few { most ≤ 18 }
     requires small { value < 10 ^ (18 - most) }
@@ -62,6 +63,7 @@ fn behind_point(bytes: &[u8]) -> Option<&[u8]>
 }
 
 // The number with this whole part and these digits behind its point, rounded to so many decimals.
+#[inline(always)]
 fn rounded_behind(whole: u64, fraction: &[u8], decimals: u32) -> Option<u64>
     requires few { decimals ≤ 12 }
     requires small { whole < 10 ^ (18 - decimals) }
@@ -84,6 +86,7 @@ fn rounded_behind(whole: u64, fraction: &[u8], decimals: u32) -> Option<u64>
 
 /// The number that digits, perhaps with a point, write, rounded to so many decimals, halves away from
 /// zero. `None` where the bytes are anything else, or their whole part is long.
+#[inline(always)]
 pub(crate) fn plain_size(bytes: &[u8], decimals: u32) -> Option<u64>
     requires few { decimals ≤ 12 }
     ensures { IfSome result (IsPlainSize decimals bytes.now) }

@@ -23,6 +23,7 @@ pub enum MicroFault {
 }
 
 // The value of a word in units of so many decimals, below the limit in size.
+#[inline(always)]
 fn read_count(word: &[u8], decimals: u32, limit: u64) -> Result<i64, MicroFault>
     requires few { decimals ≤ 12 }
     requires within { limit ≤ 10 ^ 18 }
@@ -39,6 +40,7 @@ fn read_count(word: &[u8], decimals: u32, limit: u64) -> Result<i64, MicroFault>
 }
 
 /// The value of a number word as a count of millionths, rounded half away from zero.
+#[inline(always)]
 pub fn read_micro(word: &[u8]) -> Result<Micro, MicroFault>
     ensures ok { IfOk result (RoundsTo 6 word.now) }
     ensures not_number { (result ≡ Err MicroFault.NotNumber) ↔ ¬ IsNumberWord word.now }
@@ -49,6 +51,7 @@ pub fn read_micro(word: &[u8]) -> Result<Micro, MicroFault>
 }
 
 /// The value of a number word as a count of billionths, rounded half away from zero.
+#[inline(always)]
 pub fn read_nano(word: &[u8]) -> Result<Nano, MicroFault>
     ensures ok { IfOk result (RoundsTo 9 word.now) }
     ensures not_number { (result ≡ Err MicroFault.NotNumber) ↔ ¬ IsNumberWord word.now }
@@ -59,6 +62,7 @@ pub fn read_nano(word: &[u8]) -> Result<Nano, MicroFault>
 }
 
 /// The value of a number word as a count of trillionths, rounded half away from zero.
+#[inline(always)]
 pub fn read_pico(word: &[u8]) -> Result<Pico, MicroFault>
     ensures ok { IfOk result (RoundsTo 12 word.now) }
     ensures not_number { (result ≡ Err MicroFault.NotNumber) ↔ ¬ IsNumberWord word.now }

@@ -34,6 +34,7 @@ fn is_within(least: i64, most: i64, whole: i64) -> bool
 }
 
 // The value of a number word that is whole once it is rounded to six decimals, in a range about zero.
+#[inline(always)]
 fn read_within(word: &[u8], least: i64, most: i64) -> Result<i64, WholeFault>
     requires low { IsWithin (negsuc 4294967295) (pos 0) least }
     requires high { IsWithin (pos 0) (pos 4294967296) most }
@@ -58,6 +59,7 @@ fn read_within(word: &[u8], least: i64, most: i64) -> Result<i64, WholeFault>
 
 /// The value of a number word that is whole once it is rounded to six decimals, up to a limit in size.
 /// The faults are tried in their order.
+#[inline(always)]
 pub fn read_whole(word: &[u8], limit: i64) -> Result<i64, WholeFault>
     requires low { pos 0 ≤ℤ limit }
     requires high { limit ≤ℤ pos 1000000 }
@@ -75,6 +77,7 @@ pub fn read_whole(word: &[u8], limit: i64) -> Result<i64, WholeFault>
 
 /// The value of a number word that is whole once it is rounded to six decimals, from -2,147,483,648 to
 /// 4,294,967,295: what a field of 32 bits keeps, signed or not. The faults are tried in their order.
+#[inline(always)]
 pub fn read_wide(word: &[u8]) -> Result<i64, WholeFault>
     ensures ok { IfOk result (λ whole. RoundsTo 6 word.now (whole *ℤ pos (10 ^ 6)) × IsWide whole) }
     ensures not_number { (result ≡ Err WholeFault.NotNumber) ↔ ¬ IsNumberWord word.now }

@@ -1,7 +1,7 @@
 -- The tokens that are left of a text, piece by piece.
 use Rattle.std.proofs.Common.{◌≡◌, ◌≢◌, ℕ, suc, ◌+◌, ◌-◌, ◌<◌, ◌≤◌, Bool, true, false, ◌==◌, cond, List, [], ◌∷◌, ◌++◌, length, take, drop, get_or, add-one, drop-cons, eq-eqb, refl, sym, ◌∙◌, ap, subst, length-append, length-take-le, arith}
 use Rattle.std.specs.List.{flat_map, position_or_len, list_any}
-use Rattle.std.proofs.lemmas.List.{drop_at, take_rest}
+use Rattle.std.proofs.lemmas.List.{drop_at, take_all, take_rest}
 use Rattle.std.proofs.lemmas.Bool.{ne_eqb}
 use Rattle.map_lex.specs.declared.lexer.LexFault.TheVariants.{OpenQuote, StrayByte}
 use Rattle.map_lex.specs.Bytes.{is_blank, is_stray, rest_of_line, up_to_blank}
@@ -36,6 +36,11 @@ left_empty line (b ∷ text) short = absurd (omega arith)
 left-blank : (line b : ℕ) (text : List ℕ) → is_blank b ≡ true → tokens_left line (b ∷ text) ≡ tokens_left (cond (b == 10) (line + 1) line) text
 unfolding tokens_left
 left-blank line b text blank = left-cons line (Blank b) text (b ∷ text) refl blank
+
+pub space_passed : (line : ℕ) (text : List ℕ) → 1 ≤ length text → get_or text 0 0 ≡ 32 → tokens_left line text ≡ tokens_left line (take (length text - 1) (drop 1 text))
+space_passed line [] some is = absurd (omega arith)
+space_passed line (b ∷ text) some is =
+    ap (λ c. tokens_left line (c ∷ text)) is ∙ left-blank line 32 text refl ∙ ap (tokens_left line) (sym (take_all (length (b ∷ text) - 1) text (omega arith)))
 
 left_at : (line : ℕ) (text : List ℕ) (i : ℕ) → i < length text → is_blank (get_or text i 0) ≡ true →
     tokens_left line (drop i text) ≡ tokens_left (cond (get_or text i 0 == 10) (line + 1) line) (drop (i + 1) text)

@@ -1,10 +1,11 @@
 //! The tokens of a text, asked for one after another.
 
-ghost use Rattle.std.specs.Prelude.{◌≡◌, ◌+◌, ◌-◌, ◌^◌, ◌<◌, ◌≤◌, ◌↔◌, ◌∷◌, [], IsTrue, IfOk, IfErr, IfSome, MatchOption, MatchResult, length, option_map, slice_get};
+ghost use Rattle.std.specs.Prelude.{◌≡◌, ◌+◌, ◌-◌, ◌^◌, ◌<◌, ◌≤◌, ◌↔◌, ◌∷◌, [], IsTrue, IfOk, IfErr, IfSome, IfNone, MatchOption, MatchResult, length, option_map, slice_get};
 ghost use Rattle.map_lex.specs.Cut.{begins_word};
 ghost use Rattle.map_lex.specs.TokenList.{TokenList, tokens_left, cut_off, put_first, no_more, stopped, value_of, without_mark, token_list, AreTokensOf};
 
 use crate::places::{Place, past_gap};
+use crate::plain_words::plain_word;
 use crate::spans::{closing_quote, has_stray, line_len, word_len};
 use std::marker::Model;
 
@@ -77,12 +78,43 @@ impl<'a> Tokens<'a> {
     /// A `LexFault` is answered where the next piece of the text is at fault: `StrayByte` where it
     /// has a byte below 32 that is no blank, and otherwise `OpenQuote` where it begins with a quote
     /// that isn't closed on its line. The same fault is then answered at each further call.
-    #[tactic(auto, using(crate::proofs::Reading::left_end))]
+    #[inline(always)]
     pub fn next(&mut self) -> Result<Option<Token<'a>>, LexFault>
         // A token is the first of those that were left, and the others are left now.
         ensures token { IfOk result (λ found. IfSome found (λ token.
             self.old ≡ put_first (value_of token) self.new)) }
         // Where no token is left, the answer is what ends the list, and nothing changes.
+        ensures none { (result ≡ Ok None) ↔ (self.old ≡ no_more) }
+        ensures fault { IfErr result (λ fault. self.old ≡ stopped fault) }
+        ensures fault_again { (fault : LexFault) → self.old ≡ stopped fault → result ≡ Err fault }
+        ensures stays { self.old.tokens ≡ [] → self.new ≡ self.old }
+    {
+        match self.next_word() {
+            Some(token) => Ok(Some(token)),
+            None => self.next_token(),
+        }
+    }
+
+    // The next token, by the short way.
+    #[inline(always)]
+    fn next_word(&mut self) -> Option<Token<'a>>
+        ensures token { IfSome result (λ token. self.old ≡ put_first (value_of token) self.new) }
+        ensures none { IfNone result (self.new ≡ self.old) }
+    {
+        if self.fault.is_some() {
+            return None;
+        }
+        let (token, place) = plain_word(self.place)?;
+        self.place = place;
+        Some(token)
+    }
+
+    // The next token, by the way that finds each.
+    #[inline(never)]
+    #[tactic(auto, using(crate::proofs::Reading::left_end))]
+    fn next_token(&mut self) -> Result<Option<Token<'a>>, LexFault>
+        ensures token { IfOk result (λ found. IfSome found (λ token.
+            self.old ≡ put_first (value_of token) self.new)) }
         ensures none { (result ≡ Ok None) ↔ (self.old ≡ no_more) }
         ensures fault { IfErr result (λ fault. self.old ≡ stopped fault) }
         ensures fault_again { (fault : LexFault) → self.old ≡ stopped fault → result ≡ Err fault }
@@ -139,7 +171,8 @@ fn first_token(place: Place<'_>) -> Result<Option<(Token<'_>, Place<'_>)>, LexFa
 }
 
 // The word that begins here, and what follows it.
-fn word(text: &[u8], line: u32) -> Result<(Token<'_>, &[u8]), LexFault>
+#[inline(always)]
+pub(crate) fn word(text: &[u8], line: u32) -> Result<(Token<'_>, &[u8]), LexFault>
     requires { IsTrue (begins_word text.now) }
     ensures left { tokens_left line text.now ≡ cut_off line result }
     ensures no_longer { IfOk result (λ cut. length cut.1.now ≤ length text.now) }

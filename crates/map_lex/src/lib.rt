@@ -15,6 +15,7 @@ mod bytes;
 mod laws;
 mod lexer;
 mod places;
+mod plain_words;
 mod spans;
 
 pub use laws::one_cut_law;

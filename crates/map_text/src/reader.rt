@@ -70,6 +70,7 @@ impl<'a> Reader<'a> {
     }
 
     /// The next token, where one may be missing.
+    #[inline(always)]
     pub(crate) fn next_token(&mut self) -> Result<Option<Token<'a>>, ReadFault>
         ensures token { IfOk result (λ found. IsFound self.old found self.new) }
         ensures fault { IfErr result (λ why. (places : List Awaited) (place : Awaited) → IsRefused self.old (place ∷ places) why) }
@@ -77,18 +78,28 @@ impl<'a> Reader<'a> {
         Ok(self.tokens.next()?)
     }
 
+    // What ends a text inside an entity: its last line. Apart, so that what reads a token stays short.
+    #[inline(never)]
+    fn ends_early(&self) -> ReadFault
+        ensures { result ≡ ReadFault.EndsEarly self.now.last }
+    {
+        ReadFault::EndsEarly(1 + line_feeds(self.text) as u32)
+    }
+
     /// The next token, inside an entity.
+    #[inline(always)]
     pub(crate) fn token(&mut self) -> Result<Token<'a>, ReadFault>
         ensures token { IfOk result (λ token. IsNext self.old (value_of token) self.new) }
         ensures fault { IfErr result (λ why. (place : Awaited) → IsTrue (is_inner place) → IsRefused self.old (place ∷ []) why) }
     {
         match self.next_token()? {
             Some(token) => Ok(token),
-            None => Err(ReadFault::EndsEarly(1 + line_feeds(self.text) as u32)),
+            None => Err(self.ends_early()),
         }
     }
 
     /// The next token, which has to be this bracket.
+    #[inline(always)]
     pub(crate) fn expect(&mut self, byte: u8, what: What) -> Result<(), ReadFault>
         ensures read { OnOk result (Passes self.old self.new (mark byte what ∷ []) [] (bracket byte ∷ []) []) }
         ensures fault { IfErr result (IsRefused self.old (mark byte what ∷ [])) }

@@ -1,5 +1,5 @@
 use Rattle.std.proofs.Common.{refl}
-use Rattle.fixed_num.proofs.kept_count.read_kept_count.Goals as goal
+use Rattle.fixed_num.proofs.kept_count.read_any_count.Goals as goal
 
 pub returns : goal.returns
 returns c = record {
