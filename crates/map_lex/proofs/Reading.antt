@@ -33,7 +33,7 @@ pub left_empty : (line : ℕ) (text : List ℕ) → length text < 1 → tokens_l
 left_empty line [] short = left_end line
 left_empty line (b ∷ text) short = absurd (omega arith)
 
-left-blank : (line b : ℕ) (text : List ℕ) → is_blank b ≡ true → tokens_left line (b ∷ text) ≡ tokens_left (cond (b == 10) (line + 1) line) text
+pub left-blank : (line b : ℕ) (text : List ℕ) → is_blank b ≡ true → tokens_left line (b ∷ text) ≡ tokens_left (cond (b == 10) (line + 1) line) text
 unfolding tokens_left
 left-blank line b text blank = left-cons line (Blank b) text (b ∷ text) refl blank
 

@@ -10,7 +10,7 @@ use Rattle.map_lex.proofs.Fronts.{before_first-cons, cond_false}
 abbrev pub ArePlain : List ℕ → ℕ → Type 0
 ArePlain text len = (k : ℕ) → k < len → 32 < get_or text k 0
 
-plain_no_blank : (b : ℕ) → 32 < b → is_blank b ≡ false
+pub plain_no_blank : (b : ℕ) → 32 < b → is_blank b ≡ false
 plain_no_blank b h = grind arith
 
 plain_no_stray : (b : ℕ) → 32 < b → is_stray b ≡ false

@@ -1,11 +1,11 @@
 //! The tokens of a text, asked for one after another.
 
-ghost use Rattle.std.specs.Prelude.{◌≡◌, ◌+◌, ◌-◌, ◌^◌, ◌<◌, ◌≤◌, ◌↔◌, ◌∷◌, [], IsTrue, IfOk, IfErr, IfSome, IfNone, MatchOption, MatchResult, length, option_map, slice_get};
+ghost use Rattle.std.specs.Prelude.{◌≡◌, ◌+◌, ◌-◌, ◌^◌, ◌<◌, ◌≤◌, ◌↔◌, ◌∷◌, [], true, false, ℕ, IsTrue, IfOk, IfErr, IfSome, IfNone, MatchOption, MatchResult, length, option_map, slice_get};
 ghost use Rattle.map_lex.specs.Cut.{begins_word};
 ghost use Rattle.map_lex.specs.TokenList.{TokenList, tokens_left, cut_off, put_first, no_more, stopped, value_of, without_mark, token_list, AreTokensOf};
 
 use crate::places::{Place, past_gap};
-use crate::plain_words::plain_word;
+use crate::plain_words::{behind_mark, plain_word};
 use crate::spans::{closing_quote, has_stray, line_len, word_len};
 use std::marker::Model;
 
@@ -95,6 +95,26 @@ impl<'a> Tokens<'a> {
         }
     }
 
+    /// Takes the next token where it is the word of this byte alone and a space stands on either side of it, and tells whether it
+    /// did. Else nothing changes, whatever the next token is.
+    #[inline(always)]
+    pub fn take_mark(&mut self, byte: u8) -> bool
+        ensures taken { result ≡ true → (line : ℕ)
+            × self.old ≡ put_first (record { text = byte ∷ []; quoted = false; line = line }) self.new }
+        ensures left { result ≡ false → self.new ≡ self.old }
+    {
+        if self.fault.is_some() {
+            return false;
+        }
+        match behind_mark(self.place.rest, byte) {
+            Some(rest) => {
+                self.place.rest = rest;
+                true
+            }
+            None => false,
+        }
+    }
+
     // The next token, by the short way.
     #[inline(always)]
     fn next_word(&mut self) -> Option<Token<'a>>
@@ -171,8 +191,7 @@ fn first_token(place: Place<'_>) -> Result<Option<(Token<'_>, Place<'_>)>, LexFa
 }
 
 // The word that begins here, and what follows it.
-#[inline(always)]
-pub(crate) fn word(text: &[u8], line: u32) -> Result<(Token<'_>, &[u8]), LexFault>
+fn word(text: &[u8], line: u32) -> Result<(Token<'_>, &[u8]), LexFault>
     requires { IsTrue (begins_word text.now) }
     ensures left { tokens_left line text.now ≡ cut_off line result }
     ensures no_longer { IfOk result (λ cut. length cut.1.now ≤ length text.now) }
