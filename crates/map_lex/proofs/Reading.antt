@@ -42,6 +42,11 @@ space_passed line [] some is = absurd (omega arith)
 space_passed line (b ∷ text) some is =
     ap (λ c. tokens_left line (c ∷ text)) is ∙ left-blank line 32 text refl ∙ ap (tokens_left line) (sym (take_all (length (b ∷ text) - 1) text (omega arith)))
 
+pub line_passed : (line : ℕ) (text : List ℕ) → 1 ≤ length text → get_or text 0 0 ≡ 10 → tokens_left line text ≡ tokens_left (line + 1) (take (length text - 1) (drop 1 text))
+line_passed line [] some is = absurd (omega arith)
+line_passed line (b ∷ text) some is =
+    ap (λ c. tokens_left line (c ∷ text)) is ∙ left-blank line 10 text refl ∙ ap (tokens_left (line + 1)) (sym (take_all (length (b ∷ text) - 1) text (omega arith)))
+
 left_at : (line : ℕ) (text : List ℕ) (i : ℕ) → i < length text → is_blank (get_or text i 0) ≡ true →
     tokens_left line (drop i text) ≡ tokens_left (cond (get_or text i 0 == 10) (line + 1) line) (drop (i + 1) text)
 left_at line text i within blank = rw (add-one i) (ap (tokens_left line) (drop-cons text i 0 within) ∙ left-blank line (get_or text i 0) (drop (suc i) text) blank)

@@ -67,6 +67,9 @@ impl<'a> Tokens<'a> {
         if self.fault.is_some() {
             return None;
         }
+        if let Some((token, _)) = plain_word(self.place) {
+            return Some(token);
+        }
         match first_token(self.place) {
             Ok(Some((token, _))) => Some(token),
             Ok(None) | Err(_) => None,

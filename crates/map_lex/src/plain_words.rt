@@ -1,4 +1,4 @@
-//! The short way to a word that stands behind one space at most, as most tokens do.
+//! The short way to a word that stands behind one space or line feed at most, as most tokens do.
 
 ghost use Rattle.std.specs.Prelude.{◌≡◌, ◌≢◌, ◌<◌, ◌≤◌, ◌∷◌, [], ℕ, true, false, length, slice_index, take, IfSome, IsTrue};
 ghost use Rattle.std.specs.List.{list_any, position_or_len};
@@ -18,16 +18,22 @@ fn is_plain(byte: u8) -> bool
     byte > b' ' && byte != b'"' && byte != b'/'
 }
 
-// What stands behind a space, where the text begins with one.
+// What stands behind a space or a line feed, where the text begins with one.
 #[inline(always)]
-#[tactic(auto, using(crate::proofs::Reading::space_passed))]
-fn behind_space(text: &[u8]) -> &[u8]
-    ensures left { (line : ℕ) → tokens_left line text.now ≡ tokens_left line result.now }
-    ensures no_longer { length result.now ≤ length text.now }
+#[tactic(auto, using(crate::proofs::Reading::space_passed, crate::proofs::Reading::line_passed))]
+fn behind_blank(place: Place<'_>) -> Place<'_>
+    ensures left { tokens_left place.entry.line place.entry.rest.now ≡ tokens_left result.line result.rest.now }
 {
-    match text {
-        [b' ', rest @ ..] => rest,
-        _ => text,
+    match place.rest {
+        [b' ', rest @ ..] => Place {
+            rest,
+            line: place.line,
+        },
+        [b'\n', rest @ ..] => Place {
+            rest,
+            line: place.line + 1,
+        },
+        _ => place,
     }
 }
 
@@ -54,14 +60,13 @@ fn plain_len(text: &[u8]) -> Option<usize>
     Some(1 + len)
 }
 
-/// The word behind one space at most, and what follows it; `None` where that takes a closer look.
+/// The word behind one space or line feed at most, and what follows it; `None` where that takes a closer look.
 #[inline(always)]
 pub(crate) fn plain_word(place: Place<'_>) -> Option<(Token<'_>, Place<'_>)>
     ensures left { IfSome result (λ cut. tokens_left place.entry.line place.entry.rest.now
         ≡ put_first (value_of cut.0) (tokens_left cut.1.line cut.1.rest.now)) }
 {
-    let Place { rest, line } = place;
-    let text = behind_space(rest);
+    let Place { rest: text, line } = behind_blank(place);
     if !begins_plainly(text) {
         return None;
     }

@@ -6,7 +6,7 @@ use Rattle.map_lex.proofs.plain_words.plain_word.Goals as goal
 
 pub returns : goal.returns
 returns c = record {
-  left = c.behind_space-text.ensures.left c.args.place.line
-      ∙ word_clean c.args.place.line (record { is_front = c.split_at.ensures.front; is_rest = c.split_at.ensures.back }) (c.begins_plainly.ensures.word c.if-not-begins_plainly.false) c.in_ok-plain_len.ensures.word
+  left = c.behind_blank-line.ensures.left
+      ∙ word_clean c.behind_blank-line.result.line (record { is_front = c.split_at.ensures.front; is_rest = c.split_at.ensures.back }) (c.begins_plainly.ensures.word c.if-not-begins_plainly.false) c.in_ok-plain_len.ensures.word
       (ap (list_any is_stray) c.split_at.ensures.front ∙ c.in_ok-plain_len.ensures.clean);
 }
