@@ -8,11 +8,13 @@ use Rattle.std.specs.Option.{ok_or}
 use Rattle.std.specs.Result.{IsErrAnd}
 use Rattle.std.proofs.lemmas.Slice.Eq.{bytes_eq-Decides}
 use Rattle.std.specs.List.{list_all}
+use Rattle.std.specs.Str.{bytes_eq}
 use Rattle.map_lex.specs.declared.lexer.LexFault.{LexFault}
 use Rattle.map_lex.specs.TokenList.{TokenValue, TokenList, put_first}
 use Rattle.uv_lock.specs.declared.texture.Format.{Format}
 use Rattle.map_text.specs.declared.read_fault.ReadFault.{ReadFault}
-use Rattle.map_text.specs.declared.read_fault.ReadFault.TheVariants.{EndsEarly}
+use Rattle.map_text.specs.declared.read_fault.ReadFault.TheVariants.{EndsEarly, Expected}
+use Rattle.map_text.specs.declared.read_fault.What.{What}
 use Rattle.map_text.specs.Grammar.{Symbol, symbol_of, bracket, word, quote}
 use Rattle.map_text.specs.Refusals.{Awaited, an_entity, an_item, a_value, first_in_brush, a_face, mark, a_number, a_material, a_texture, a_surface, Step, fits, refused, step, face_step, settled, stopped_by, go_on, is_bracket, is_number}
 use Rattle.map_text.specs.Reading.{ReaderState, reads_on, first_after, all_are, Passes, IsRefused, IsNext, is_inner}
@@ -102,6 +104,14 @@ quote_of t h = ap (λ q. record { text = t.text; quoted = q }) h
 pub bracket_of : (t : TokenValue) (byte : ℕ) → is_bracket byte t ≡ true → symbol_of t ≡ bracket byte
 bracket_of t byte h =
     word_of t (not_true t.quoted (and_left (not t.quoted) _ h)) ∙ ap word ((bytes_eq-Decides t.text (byte ∷ [])).0 (and_right (not t.quoted) _ h))
+
+-- a bracket that was taken
+pub mark_taken : (old new : ReaderState) (byte line : ℕ) → IsNext old (record { text = byte ∷ []; quoted = false; line = line }) new
+    → (what : What) → Passes old new (mark byte what ∷ []) [] (bracket byte ∷ []) []
+mark_taken old new byte line next what =
+    let is : bytes_eq (byte ∷ []) (byte ∷ []) ≡ true = (bytes_eq-Decides (byte ∷ []) (byte ∷ [])).1 refl in
+    passes_token old new (mark byte what) (record { text = byte ∷ []; quoted = false; line = line }) [] (bracket byte) next refl
+    (ap (λ b. cond b (fits []) (refused (Expected what line))) is) refl
 
 -- ---- from part to part
 

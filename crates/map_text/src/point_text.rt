@@ -12,6 +12,7 @@ use crate::read_fault::{ReadFault, What};
 use crate::reader::Reader;
 use exact_geom::Point;
 
+#[inline(always)]
 fn point_from(x: Judged<i32>, y: Judged<i32>, z: Judged<i32>) -> Judged<Point>
     ensures { result ≡ point_from x y z }
 {
@@ -19,6 +20,7 @@ fn point_from(x: Judged<i32>, y: Judged<i32>, z: Judged<i32>) -> Judged<Point>
     Ok(Point { x, y, z })
 }
 
+#[inline(always)]
 fn points_from(p0: Judged<Point>, p1: Judged<Point>, p2: Judged<Point>) -> Judged<[Point; 3]>
     ensures { result ≡ points_from p0 p1 p2 }
 {

@@ -1,6 +1,6 @@
 //! A reader in the middle of a map text.
 
-ghost use Rattle.std.specs.Prelude.{◌≡◌, ◌^◌, ◌<◌, ◌≤◌, ◌-◌, ◌+◌, ◌==◌, List, [], ◌∷◌, false, length, slice_get, option_map, IsTrue, IfOk, IfErr, OnOk, OnErr};
+ghost use Rattle.std.specs.Prelude.{◌≡◌, ◌^◌, ◌<◌, ◌≤◌, ◌-◌, ◌+◌, ◌==◌, List, [], ◌∷◌, true, false, length, slice_get, option_map, IsTrue, IfOk, IfErr, OnOk, OnErr};
 ghost use Rattle.std.specs.List.{count_by};
 ghost use Rattle.map_lex.specs.TokenList.{token_list, value_of};
 ghost use Rattle.map_lex.specs.OneToken.{ends_with_backslash};
@@ -98,9 +98,19 @@ impl<'a> Reader<'a> {
         }
     }
 
-    /// The next token, which has to be this bracket.
+    // Takes the next token where it is this bracket between two spaces, as most are, and tells whether it did.
     #[inline(always)]
-    pub(crate) fn expect(&mut self, byte: u8, what: What) -> Result<(), ReadFault>
+    #[tactic(auto, using(crate::proofs::Passing::mark_taken))]
+    fn take_bracket(&mut self, byte: u8) -> bool
+        ensures taken { result ≡ true → (what : What) → Passes self.old self.new (mark byte what ∷ []) [] (bracket byte ∷ []) [] }
+        ensures left { result ≡ false → self.new ≡ self.old }
+    {
+        self.tokens.take_mark(byte)
+    }
+
+    // The next token, which has to be this bracket. Apart, so that what reads a bracket stays short.
+    #[inline(never)]
+    fn expect_anywhere(&mut self, byte: u8, what: What) -> Result<(), ReadFault>
         ensures read { OnOk result (Passes self.old self.new (mark byte what ∷ []) [] (bracket byte ∷ []) []) }
         ensures fault { IfErr result (IsRefused self.old (mark byte what ∷ [])) }
     {
@@ -109,6 +119,18 @@ impl<'a> Reader<'a> {
             return Err(ReadFault::Expected(what, token.line));
         }
         Ok(())
+    }
+
+    /// The next token, which has to be this bracket.
+    #[inline(always)]
+    pub(crate) fn expect(&mut self, byte: u8, what: What) -> Result<(), ReadFault>
+        ensures read { OnOk result (Passes self.old self.new (mark byte what ∷ []) [] (bracket byte ∷ []) []) }
+        ensures fault { IfErr result (IsRefused self.old (mark byte what ∷ [])) }
+    {
+        if self.take_bracket(byte) {
+            return Ok(());
+        }
+        self.expect_anywhere(byte, what)
     }
 
     /// Takes the format of a face that begins its texture on this line: it has to be that of the first one.

@@ -30,6 +30,7 @@ type AxisFields = ([Nano; 3], Pico);
 /// A rotation and the scales along U and V.
 type TurnFields = (Micro, [Nano; 2]);
 
+#[inline(always)]
 fn axis_from(
     x: Judged<Nano>,
     y: Judged<Nano>,
@@ -41,6 +42,7 @@ fn axis_from(
     Ok(([x?, y?, z?], offset?))
 }
 
+#[inline(always)]
 fn turn_from(
     rotation: Judged<Micro>,
     u_scale: Judged<Nano>,
@@ -51,6 +53,7 @@ fn turn_from(
     Ok((rotation?, [u_scale?, v_scale?]))
 }
 
+#[inline(always)]
 fn standard_from(
     u: Judged<Pico>,
     v: Judged<Pico>,
@@ -69,6 +72,7 @@ fn standard_from(
     }))
 }
 
+#[inline(always)]
 fn valve_from(
     u: Judged<AxisFields>,
     v: Judged<AxisFields>,
