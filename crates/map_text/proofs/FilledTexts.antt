@@ -15,7 +15,7 @@ use Rattle.map_text.specs.Reading.{first_after, all_are}
 use Rattle.map_text.specs.Reads.{Reads}
 use Rattle.map_text.proofs.Passing.{step_on, first_after-none, first_after-append, all_are-none, all_are-append, and_left, and_right}
 use Rattle.map_text.proofs.MapTexts.{entity_fits}
-use Rattle.map_text.proofs.Fillings.{Fillings, symbols_in, formats_in, fits_in, all_symbols, all_fit, all_formats, Split, split, Rebuilt, Rebuilds, either, fits_same, at_fits, never}
+use Rattle.map_text.proofs.Fillings.{Fillings, formats_in, all_symbols, all_fit, all_formats, Split, split, Rebuilt, Rebuilds, either, fits_same, at_fits, never}
 use Rattle.map_text.proofs.FilledItems.{entity_rebuilt, key_rebuilt, brush_rebuilt, closed_entity, value_rebuilt, mark_rebuilt, number_rebuilt, material_rebuilt}
 use Rattle.map_text.proofs.FilledTextures.{texture_rebuilt}
 use Rattle.map_text.proofs.FilledFaces.{face_rebuilt, first_rebuilt, next_rebuilt, closed_face, closed_brush, closed_behind, surface_rebuilt}

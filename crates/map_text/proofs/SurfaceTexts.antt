@@ -1,5 +1,5 @@
 -- Surface numbers that are read.
-use Rattle.std.proofs.Common.{◌≡◌, ◌≢◌, ℕ, ◌^◌, ◌&&◌, ◌||◌, Bool, true, false, not, cond, T, int_le, List, [], ◌∷◌, slice_get, Option, None, Some, Result, Ok, Err, IfOk, ℤ, pos, negsuc, ◌*ℤ◌, ap, sym, subst, ◌∙◌, refl}
+use Rattle.std.proofs.Common.{◌≡◌, ◌≢◌, ℕ, ◌^◌, ◌&&◌, ◌||◌, Bool, true, false, not, T, int_le, List, [], ◌∷◌, slice_get, None, Some, Result, Ok, Err, ℤ, pos, negsuc, ◌*ℤ◌, ap, sym, subst, ◌∙◌, refl}
 use Rattle.std.proofs.lemmas.Bool.{false≢true}
 use Rattle.fixed_num.specs.DecimalValue.{RoundsTo}
 use Rattle.fixed_num.specs.Count.{count_of}
@@ -10,10 +10,10 @@ use Rattle.map_lex.specs.TokenList.{TokenValue}
 use Rattle.map_text.specs.declared.document.Reason.{Reason}
 use Rattle.map_text.specs.declared.document.Reason.TheVariants.{Surface}
 use Rattle.map_text.specs.Grammar.{SurfaceText, word}
-use Rattle.map_text.specs.Meaning.{is_whole, whole_of, is_large, is_bits, surface_of}
-use Rattle.map_text.specs.Refusals.{a_number, a_surface, a_face, is_number, face_step}
+use Rattle.map_text.specs.Meaning.{is_whole, whole_of, is_large, is_bits}
+use Rattle.map_text.specs.Refusals.{a_number, a_surface, a_face, is_number}
 use Rattle.map_text.specs.Reading.{ReaderState, Passes, IsNext, IsRead}
-use Rattle.map_text.specs.Judged.{judge, reason_if, count_or, bits_or, bits_in, surface_from}
+use Rattle.map_text.specs.Judged.{count_or, bits_or, bits_in, surface_from}
 use Rattle.map_text.specs.Parts.{number_part, bits_part, surface_part}
 use Rattle.map_text.proofs.Passing.{passes_token, joined, framed, no_surface, and_left, and_right}
 use Rattle.map_text.proofs.NumberTexts.{whole_test, whole_value, fraction_test, word_of_rounds, some_from_word, number_if, no_number_if, number_fits, number_symbol}

@@ -1,9 +1,7 @@
 use Rattle.std.proofs.Common.{[], ◌∷◌, refl}
-use Rattle.map_lex.specs.TokenList.{value_of}
 use Rattle.map_text.specs.Refusals.{a_surface}
 use Rattle.map_text.specs.Reading.{IsRefused}
 use Rattle.map_text.proofs.Passing.{passed_on}
-use Rattle.map_text.proofs.SurfaceTexts.{contents_begin, no_contents, no_token}
 use Rattle.map_text.proofs.surface_text.begins_surface.Goals as goal
 
 pub returns-in_err-token-clause-fault : goal.returns-in_err-token-clause-fault

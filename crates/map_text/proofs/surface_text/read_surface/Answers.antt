@@ -1,8 +1,4 @@
-use Rattle.std.proofs.Common.{[], ◌∷◌, ◌∙◌, ◌++◌}
-use Rattle.map_text.specs.Refusals.{a_number, a_surface, a_face}
-use Rattle.map_text.specs.Reading.{IsRefused}
-use Rattle.map_text.proofs.Passing.{passed_on}
-use Rattle.map_text.proofs.SurfaceTexts.{surface_read, surface_absent}
+use Rattle.map_text.proofs.SurfaceTexts.{surface_read}
 use Rattle.map_text.proofs.surface_text.read_surface.Goals as goal
 
 pub returns-clause-read : goal.returns-clause-read

@@ -1,7 +1,6 @@
 use Rattle.std.proofs.Common.{[], ◌∷◌, ◌∙◌, ◌++◌}
-use Rattle.uv_lock.specs.declared.texture.Format.TheVariants.{Standard, Valve}
 use Rattle.map_text.specs.declared.read_fault.What.TheVariants.{Axis}
-use Rattle.map_text.specs.Refusals.{a_number, a_texture, a_surface, mark, rest_of_axis, rest_of_texture}
+use Rattle.map_text.specs.Refusals.{a_texture, a_surface, mark, rest_of_axis}
 use Rattle.map_text.specs.Reading.{IsRefused}
 use Rattle.map_text.specs.Parts.{turn_places}
 use Rattle.map_text.proofs.Passing.{passed_on}
