@@ -1,2 +1,4 @@
-pub mod FirstGreatest
 pub mod Directions
+pub mod Divisors
+pub mod FirstGreatest
+pub mod Offsets

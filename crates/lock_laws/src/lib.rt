@@ -1,0 +1,13 @@
+//! Laws of texture lock: what carrying a face by one motion and then another makes of it, and where it leaves the texture
+//! coordinates of its points.
+//!
+//! It has no code that runs. The function below is empty: it states as its `ensures` the laws that are proved there.
+#![tactic(auto)]
+
+ghost use Rattle.lock_laws.specs.Laws.{Locks};
+
+/// A Valve face that is carried with lock keeps the texture coordinates of each point, fractional ones too. Carried by one
+/// motion and then by another, a face is carried by both at once, and the way back leads to the face of before.
+pub fn lock_law()
+    ensures { Locks }
+{}
