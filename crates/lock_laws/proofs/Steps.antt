@@ -6,7 +6,7 @@ use Rattle.std.proofs.lemmas.Bool.{and_parts, true≢false}
 use Rattle.std.proofs.lemmas.Bool.Decides.{Decides-int_eq}
 use Rattle.algebra.specs.Space.{dot}
 use Rattle.orient48.specs.Motions.{Motion, turned}
-use Rattle.orient48.proofs.Matrices.{turned_none}
+use Rattle.orient48.proofs.Following.{turned_none}
 use Rattle.uv_lock.specs.declared.texture.Tex.{Tex}
 use Rattle.uv_lock.specs.declared.texture.Tex.TheVariants.{Valve}
 use Rattle.uv_lock.specs.declared.texture.ValveTex.{ValveTex}

@@ -62,25 +62,25 @@ by_sign (pos k) = inl refl
 by_sign (negsuc k) = inr (record { opposite = refl; below = omega (arith, ints) })
 
 -- ---- the rows of the table
-abbrev up_row : Row
+abbrev pub up_row : Row
 up_row = record { normal = up; u = east; v = south }
 
 abbrev down_row : Row
 down_row = record { normal = down; u = east; v = south }
 
-abbrev east_row : Row
+abbrev pub east_row : Row
 east_row = record { normal = east; u = north; v = down }
 
 abbrev west_row : Row
 west_row = record { normal = west; u = north; v = down }
 
-abbrev north_row : Row
+abbrev pub north_row : Row
 north_row = record { normal = north; u = east; v = down }
 
 abbrev south_row : Row
 south_row = record { normal = south; u = east; v = down }
 
-le_or_lt : (a b : ℕ) → (a ≤ b) ⊎ (b < a)
+pub le_or_lt : (a b : ℕ) → (a ≤ b) ⊎ (b < a)
 le_or_lt a b = by_lt_z (pos b) (pos a) (λ h. inr (omega (arith, ints))) (λ h. inl (omega (arith, ints)))
 
 -- ---- which row wins

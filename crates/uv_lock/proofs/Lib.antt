@@ -1,4 +1,10 @@
 pub mod Directions
 pub mod Divisors
 pub mod FirstGreatest
+pub mod Locks
 pub mod Offsets
+pub mod Options
+pub mod Places
+pub mod Quarters
+pub mod Sums
+pub mod Threes

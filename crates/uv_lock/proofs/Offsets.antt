@@ -1,5 +1,5 @@
 -- Offsets that have a count, and offsets that have none.
-use Rattle.std.proofs.Common.{◌≡◌, ◌≢◌, ℕ, ◌*◌, ◌<◌, ◌^◌, true, false, cond, Bool, ◌&&◌, Some, None, Option, refl, arith, sym, ap, ◌∙◌, nat_lt, ℤ, pos, ◌-ℤ◌, ◌*ℤ◌, unsigned_abs, int_div}
+use Rattle.std.proofs.Common.{◌≡◌, ◌≢◌, ℕ, ◌<◌, [], ◌∷◌, inl, inr, true, false, cond, Bool, ◌&&◌, Some, None, Option, refl, arith, sym, ap, ◌∙◌, nat_lt, ℤ, pos, ◌-ℤ◌, ◌*ℤ◌, unsigned_abs, int_div}
 use Rattle.std.specs.Ordering.{int_eq}
 use Rattle.std.proofs.lemmas.Int.{ints}
 use Rattle.std.proofs.lemmas.Bool.{and_parts, and_from, true≢false}
@@ -42,6 +42,13 @@ quotient_lost n d limit size same none = by (int_eq (int_div n d *ℤ d) n && na
         let p = and_parts (int_eq (int_div n d *ℤ d) n) _ f in
         absurd (none (int_div n d) ((Decides-int_eq (int_div n d *ℤ d) n).0 p.0, below (unsigned_abs (int_div n d)) size (unsigned_abs limit) p.1 same))
     by false f = refl
+
+-- the same of numbers that are known to be these
+pub found : (n d limit : ℤ) (size : ℕ) (k : ℤ) {n' d' : ℤ} → n' ≡ n → d' ≡ d → unsigned_abs limit ≡ size → d ≢ pos 0 → IsQuotientBelow n' d' limit k → exact_quotient n d size ≡ Some k
+found n d limit size k e f same ne h = quotient_there n d k size ne (ap (λ t. k *ℤ t) (sym f) ∙ h.0 ∙ e) (let l = h.1 in omega arith)
+
+pub lost : (n d limit : ℤ) (size : ℕ) {n' d' : ℤ} → n' ≡ n → d' ≡ d → unsigned_abs limit ≡ size → ((k : ℤ) → ¬ IsQuotientBelow n' d' limit k) → exact_quotient n d size ≡ None
+lost n d limit size e f same none = quotient_lost n d limit size same (λ k h. none k (ap (λ t. k *ℤ t) f ∙ h.0 ∙ sym e, h.1))
 
 -- a scale is never 0
 pub scale_not_zero : (s : ℤ) → scale_of s ≢ pos 0

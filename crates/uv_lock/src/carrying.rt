@@ -10,7 +10,7 @@ ghost use Rattle.uv_lock.specs.Fractions.{fraction_of};
 
 use crate::face::Face;
 use crate::fraction::reduced;
-use crate::numbers::{OFFSET_UNIT, along, scale_count};
+use crate::numbers::{OFFSET_UNIT, along, scale_count, scaled_offset};
 use crate::texture::{Tex, ValveTex};
 use fixed_num::{Frac, Nano, Pico, exact_quotient};
 use orient48::{Motion, Orient};
@@ -87,8 +87,8 @@ fn locked_offset(
     ensures lost { IfErr result (λ fault. kept_offset off scale (axis_vector axis) (vector_in shift) ≡ None) }
     ensures offset { IfErr result (λ fault. fraction_of fault.offset ≡ exact_offset off scale (axis_vector axis) (vector_in shift)) }
 {
+    let product = scaled_offset(off, scale) - OFFSET_UNIT * along(shift, axis);
     let scale = scale_count(scale);
-    let product = i128::from(off.0) * scale - OFFSET_UNIT * along(shift, axis);
     match exact_quotient(product, scale, OFFSET_LIMIT) {
         Some(count) => Ok(Pico(count as i64)),
         None => Err(LockOffset {

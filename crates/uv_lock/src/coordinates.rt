@@ -11,7 +11,7 @@ ghost use Rattle.uv_lock.specs.Fractions.{fraction_of};
 
 use crate::face::Face;
 use crate::fraction::reduced;
-use crate::numbers::{OFFSET_UNIT, along, scale_count};
+use crate::numbers::{OFFSET_UNIT, along, scale_count, scaled_offset};
 use crate::standard::valve_fields;
 use exact_geom::Point;
 use fixed_num::{Frac, Nano, Pico};
@@ -34,10 +34,6 @@ fn coordinate(axis: [Nano; 3], off: Pico, scale: Nano, at: [i32; 3]) -> Frac
     requires { IsTrue (is_short (vector_in at)) }
     ensures { fraction_of result ≡ coordinate_along off scale (axis_vector axis) (whole_point (vector_in at)) }
 {
-    let scale = scale_count(scale);
-    let along = along(at, axis);
-    reduced(
-        along * OFFSET_UNIT + i128::from(off.0) * scale,
-        scale * OFFSET_UNIT,
-    )
+    let texels = along(at, axis) * OFFSET_UNIT + scaled_offset(off, scale);
+    reduced(texels, scale_count(scale) * OFFSET_UNIT)
 }
