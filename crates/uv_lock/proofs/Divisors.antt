@@ -1,5 +1,5 @@
 -- What is left of two numbers when they are divided by their greatest common divisor.
-use Rattle.std.proofs.Common.{◌≡◌, ℕ, zero, suc, ◌*◌, ◌%◌, ◌<◌, ◌≤◌, true, false, cond, refl, arith, sym, ap, subst, ◌∙◌, mul_comm, mul_assoc, one-mul, lit<, ◌^◌, FitsSigned, to_z, of_z, ℤ, pos, negsuc, neg_ℤ, ◌<ℤ◌, ◌≤ℤ◌, ◌*ℤ◌, unsigned_abs}
+use Rattle.std.proofs.Common.{◌≡◌, ℕ, zero, suc, ◌*◌, ◌%◌, ◌<◌, ◌≤◌, true, false, cond, refl, arith, sym, ap, subst, ◌∙◌, mul_comm, mul_assoc, one-mul, lit<, ◌^◌, FitsSigned, to_z, of_z, ℤ, pos, negsuc, neg_ℤ, ◌<ℤ◌, ◌≤ℤ◌, unsigned_abs}
 use Rattle.std.specs.Prelude.{int_div, int_lt}
 use Rattle.std.specs.Int.{◌∣◌, IsGcd, w128}
 use Rattle.std.proofs.lemmas.Int.{ints, to_z-of_z, to_z_pos, fits_signed_from_abs}
@@ -8,7 +8,7 @@ use Rattle.std.proofs.Math.Nat.{eq-zero_of_zero-dvd, dvd_of_mul-dvd-mul_right, d
 use Rattle.algebra.proofs.Orders.{positive_of_product}
 use Rattle.exact_geom.proofs.Division.{divisor_positive, exact, quotient_size, size_of_quotient}
 use Rattle.fixed_num.specs.Fraction.{IsReduced}
-use Rattle.uv_lock.specs.Fractions.{Fraction, fraction, gcd, gcd_by}
+use Rattle.uv_lock.specs.Fractions.{fraction, gcd, gcd_by}
 
 -- ---- the divisor that the definition computes
 gcd_by_is : (k a b : ℕ) → b < k → IsGcd a b (gcd_by k a b)

@@ -1,5 +1,5 @@
 -- What becomes of texture fields, by the offsets that were looked for one after another.
-use Rattle.std.proofs.Common.{◌≡◌, ◌∙◌, List, [], ◌∷◌, true, cond, Result, Err, Option, Some, None, option_map, is_some, IfErr, sym, ap, refl, ℕ, ℤ}
+use Rattle.std.proofs.Common.{◌≡◌, ◌∙◌, List, [], ◌∷◌, true, cond, Result, Err, Some, None, option_map, is_some, IfErr, sym, ap, refl, ℕ, ℤ}
 use Rattle.std.specs.Prelude.{option_and_then}
 use Rattle.std.specs.Result.{IsErrAnd}
 use Rattle.std.proofs.lemmas.Result.{err_from_is_err_and}

@@ -1,5 +1,5 @@
 -- Offsets that have a count, and offsets that have none.
-use Rattle.std.proofs.Common.{◌≡◌, ◌≢◌, ℕ, ◌<◌, [], ◌∷◌, inl, inr, true, false, cond, Bool, ◌&&◌, Some, None, Option, refl, arith, sym, ap, ◌∙◌, nat_lt, ℤ, pos, ◌-ℤ◌, ◌*ℤ◌, unsigned_abs, int_div}
+use Rattle.std.proofs.Common.{◌≡◌, ◌≢◌, ℕ, ◌<◌, [], ◌∷◌, inl, inr, true, false, cond, Bool, ◌&&◌, Some, None, refl, arith, sym, ap, ◌∙◌, nat_lt, ℤ, pos, ◌-ℤ◌, ◌*ℤ◌, unsigned_abs, int_div}
 use Rattle.std.specs.Ordering.{int_eq}
 use Rattle.std.proofs.lemmas.Int.{ints}
 use Rattle.std.proofs.lemmas.Bool.{and_parts, and_from, true≢false}

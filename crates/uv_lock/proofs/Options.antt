@@ -1,5 +1,5 @@
 -- What an option holds.
-use Rattle.std.proofs.Common.{◌≡◌, Option, Some, None, is_some, sym, ap}
+use Rattle.std.proofs.Common.{◌≡◌, Some, None, is_some, sym, ap}
 use Rattle.std.proofs.lemmas.Bool.{true≢false}
 
 pub no_some : {A P : Type 0} {x : A} → None ≡ Some x → P

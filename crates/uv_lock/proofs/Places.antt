@@ -1,5 +1,5 @@
 -- The coordinates of points on a face, by its fields in the Valve format.
-use Rattle.std.proofs.Common.{◌≡◌, List, [], ◌∷◌, Option, Some, None, option_map, refl, ap, ℤ}
+use Rattle.std.proofs.Common.{◌≡◌, List, [], ◌∷◌, Option, Some, None, option_map, ap, ℤ}
 use Rattle.algebra.specs.Space.{Homogeneous}
 use Rattle.exact_geom.specs.Planes.{ThreePoints}
 use Rattle.uv_lock.specs.declared.texture.StandardTex.{StandardTex}

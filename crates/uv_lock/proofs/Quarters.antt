@@ -1,7 +1,6 @@
 -- Base axes that are turned by quarters.
-use Rattle.std.proofs.Common.{◌≡◌, ◌≢◌, ◌∙◌, Bool, true, false, cond, if◌then◌else◌, ℕ, zero, suc, ◌<◌, ◌≤◌, List, [], ◌∷◌, All, map, Option, Some, None, option_map, refl, arith, sym, ap, subst, ℤ, pos, ◌*ℤ◌, neg_ℤ, unsigned_abs, get_or}
+use Rattle.std.proofs.Common.{◌≡◌, ◌≢◌, ◌∙◌, Bool, true, false, cond, if◌then◌else◌, ℕ, zero, suc, ◌≤◌, List, [], ◌∷◌, All, map, Some, None, option_map, refl, arith, sym, ap, subst, ℤ, pos, ◌*ℤ◌, neg_ℤ, unsigned_abs, get_or}
 use Rattle.std.specs.Prelude.{unwrap_or}
-use Rattle.std.proofs.lemmas.Int.{ints}
 use mathlib.Core.Logic.{⊎_elim}
 use Rattle.algebra.specs.Space.{Vector}
 use Rattle.uv_lock.specs.BaseAxes.{axes_of, base_axes_of}

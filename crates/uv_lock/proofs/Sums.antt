@@ -1,10 +1,10 @@
 -- Sums and products of texture counts in 128 bits, and turned axes in 64.
-use Rattle.std.proofs.Common.{◌≡◌, ◌∙◌, ◌≤◌, ◌<◌, ◌*◌, ◌^◌, List, [], ◌∷◌, get_or, length, true, sym, ap, subst, refl, arith, ℕ, ℤ, pos, ◌+ℤ◌, ◌-ℤ◌, ◌*ℤ◌, unsigned_abs, to_z, of_z, w64}
+use Rattle.std.proofs.Common.{◌≡◌, ◌∙◌, ◌≤◌, ◌<◌, ◌*◌, ◌^◌, List, get_or, length, true, sym, ap, subst, refl, arith, ℕ, ℤ, pos, ◌+ℤ◌, ◌-ℤ◌, ◌*ℤ◌, unsigned_abs, to_z, of_z, w64}
 use Rattle.std.specs.Int.{w128}
 use Rattle.std.proofs.lemmas.Int.{to_z-of_z, fits_signed_from_abs}
 use Rattle.std.proofs.lemmas.List.{get_or_read}
 use Rattle.algebra.specs.Space.{Vector}
-use Rattle.algebra.proofs.Wide.{Sized, sizes, exactly, at_most, argument, called}
+use Rattle.algebra.proofs.Wide.{sizes, exactly, at_most, argument, called}
 use Rattle.exact_geom.specs.Machine.{IsWithin}
 use Rattle.exact_geom.specs.Planes.{parts}
 use Rattle.orient48.specs.Motions.{Matrix, turned, is_signed_permutation, vector_at}

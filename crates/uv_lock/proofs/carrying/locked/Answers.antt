@@ -1,7 +1,6 @@
-use Rattle.std.proofs.Common.{◌≡◌, ◌∙◌, ◌∷◌, [], ◌<◌, true, Some, None, length, lit<, get_or, rules, subst, sym, ap}
+use Rattle.std.proofs.Common.{◌≡◌, ◌∙◌, ◌∷◌, [], ◌<◌, true, Some, None, length, lit<, rules, subst, sym, ap}
 use Rattle.orient48.specs.Kept.{vector_in}
-use Rattle.orient48.specs.Motions.{turned}
-use Rattle.uv_lock.specs.Carry.{axis_at, axis_vector, carried_tex, locked_offset, lost_offset, turned_by}
+use Rattle.uv_lock.specs.Carry.{axis_at, carried_tex, lost_offset, turned_by}
 use Rattle.uv_lock.specs.Fractions.{fraction_of}
 use Rattle.uv_lock.specs.declared.texture.Tex.TheVariants.{Valve}
 use Rattle.uv_lock.proofs.Locks.{passed_on, first_turned, second_turned, kept_is, exact_is, first_lost, second_lost, both_kept, first_offset, second_offset}

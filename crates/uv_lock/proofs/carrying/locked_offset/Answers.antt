@@ -1,6 +1,5 @@
-use Rattle.std.proofs.Common.{◌≡◌, ◌∙◌, ◌*◌, ◌^◌, ap, arith, refl, pos, ◌*ℤ◌, sym, Some}
-use Rattle.algebra.specs.Space.{dot}
-use Rattle.algebra.proofs.Wide.{sizes, exactly, no_overflow, called, argument}
+use Rattle.std.proofs.Common.{◌∙◌, ◌*◌, ◌^◌, ap, arith, refl, pos, sym, Some}
+use Rattle.algebra.proofs.Wide.{sizes, no_overflow, called, argument}
 use Rattle.orient48.specs.Kept.{vector_in}
 use Rattle.uv_lock.specs.Carry.{axis_vector, kept_product, offset_limit, scale_of}
 use Rattle.uv_lock.specs.Fractions.{fraction}

@@ -1,4 +1,4 @@
-use Rattle.std.proofs.Common.{◌≡◌, ◌∙◌, ◌*◌, ◌<◌, ◌^◌, ◌*ℤ◌, length, lit<, rules, subst, sym, w32}
+use Rattle.std.proofs.Common.{◌≡◌, ◌∙◌, ◌<◌, ◌^◌, ◌*ℤ◌, length, lit<, rules, subst, sym, w32}
 use Rattle.algebra.specs.Space.{dot}
 use Rattle.algebra.proofs.Wide.{sizes, exactly, no_overflow, at_most, called}
 use Rattle.exact_geom.proofs.Exactly.{var}

@@ -1,4 +1,4 @@
-use Rattle.std.proofs.Common.{◌≡◌, ◌∙◌, ◌∷◌, [], Some, option_map, get_or, ap, length, rules, sym}
+use Rattle.std.proofs.Common.{◌∙◌, ◌∷◌, [], Some, option_map, ap, sym}
 use Rattle.exact_geom.specs.Planes.{half_space}
 use Rattle.uv_lock.specs.Coordinates.{in_units}
 use Rattle.uv_lock.proofs.Quarters.{small_parts, two_axes}
