@@ -1,4 +1,5 @@
 pub mod Carrying
 pub mod Keeping
+pub mod Numbers
 pub mod Staying
 pub mod Steps

@@ -7,18 +7,13 @@ use Rattle.std.proofs.lemmas.Bool.Decides.{Decides-int_eq}
 use Rattle.algebra.specs.Space.{dot}
 use Rattle.orient48.specs.Motions.{Motion, turned}
 use Rattle.orient48.proofs.Following.{turned_none}
+use Rattle.uv_lock.proofs.Options.{no_some, of_some}
 use Rattle.uv_lock.specs.declared.texture.Tex.{Tex}
 use Rattle.uv_lock.specs.declared.texture.Tex.TheVariants.{Valve}
 use Rattle.uv_lock.specs.declared.texture.ValveTex.{ValveTex}
 use Rattle.uv_lock.specs.Carry.{count_at, axis_vector, axis_at, scale_of, exact_quotient, kept_product, locked_product, locked_offset, turned_axes, carried_tex}
 
 -- ---- options
-no_some : {A P : Type 0} {x : A} → None ≡ Some x → P
-no_some e = absurd (true≢false (sym (ap is_some e)))
-
-pub of_some : {A : Type 0} {x y : A} → Some x ≡ Some y → x ≡ y
-of_some {A} {x} {y} e = ap (λ o. elim o as (λ o. A) [ None ↦ x | Some a ↦ a ]) e
-
 pub mapped : {A B : Type 0} (f : A → B) (o : Option A) (y : B) → option_map f o ≡ Some y → (x : A) × (o ≡ Some x) × (f x ≡ y)
 mapped f None y e = no_some e
 mapped f (Some x) y e = (x, refl, of_some e)

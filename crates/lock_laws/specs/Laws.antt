@@ -1,5 +1,5 @@
--- What is asserted of faces that are carried with lock.
-use Rattle.std.specs.Prelude.{◌≡◌, ℕ, ◌<◌, true, IsTrue, List, ◌∷◌, [], Some, ℤ, unsigned_abs}
+-- What is asserted of faces that are carried with lock, and of the numbers that are computed for them.
+use Rattle.std.specs.Prelude.{◌≡◌, ◌≢◌, ◌↔◌, ℕ, ◌<◌, true, IsTrue, List, ◌∷◌, [], Some, ℤ, pos, ◌*ℤ◌, ◌≤ℤ◌, unsigned_abs}
 use Rattle.algebra.specs.Space.{Vector, Homogeneous}
 use Rattle.exact_geom.specs.Planes.{parts}
 use Rattle.orient48.specs.Motions.{Motion, is_signed_permutation, after, back, moved_at}
@@ -7,8 +7,10 @@ use Rattle.uv_lock.specs.declared.face.Face.{Face}
 use Rattle.uv_lock.specs.declared.texture.Tex.{Tex}
 use Rattle.uv_lock.specs.declared.texture.Tex.TheVariants.{Standard, Valve}
 use Rattle.uv_lock.specs.declared.texture.ValveTex.{ValveTex}
-use Rattle.uv_lock.specs.Carry.{carry, offset_limit}
+use Rattle.fixed_num.specs.Fraction.{IsReduced}
+use Rattle.uv_lock.specs.Carry.{carry, exact_quotient, offset_limit}
 use Rattle.uv_lock.specs.Coordinates.{coordinates}
+use Rattle.uv_lock.specs.Fractions.{Fraction, fraction}
 
 -- The motion's matrix is one of the 48.
 abbrev pub Turns : Motion → Type 0
@@ -36,3 +38,15 @@ pub record Locks : Type 0 where
   pub composed : (r s : Motion) (f g : Face) → Turns r → Turns s → carry true r f ≡ Some g → carry true s g ≡ carry true (after s r) f
   -- The way back leads to the face of before.
   pub undone : (r : Motion) (f g : Face) → Turns r → IsInLimits f.tex → carry true r f ≡ Some g → carry true (back r) g ≡ Some f
+
+-- The fraction is n / d, in lowest terms and with a denominator of at least 1.
+pub record IsLowest (n d : ℤ) (f : Fraction) : Type 0 where
+  pub value : f.num *ℤ d ≡ n *ℤ f.den
+  pub positive : pos 1 ≤ℤ f.den
+  pub reduced : IsReduced f.num f.den
+
+pub record Divides : Type 0 where
+  -- The fraction of two numbers is theirs.
+  pub fractions : (n d : ℤ) → d ≢ pos 0 → IsLowest n d (fraction n d)
+  -- A quotient is found exactly where there is one.
+  pub quotients : (n d k : ℤ) (limit : ℕ) → d ≢ pos 0 → (exact_quotient n d limit ≡ Some k) ↔ ((k *ℤ d ≡ n) × (unsigned_abs k < limit))

@@ -16,7 +16,7 @@ gcd_by_is zero a b h = absurd (omega arith)
 gcd_by_is (suc k) a zero h = IsGcd-from_zero a 0 refl
 gcd_by_is (suc k) a (suc b) h = IsGcd-from_mod a (suc b) _ (gcd_by_is k (suc b) (a % suc b) (omega arith))
 
-gcd_is : (a b : ℕ) → IsGcd a b (gcd a b)
+pub gcd_is : (a b : ℕ) → IsGcd a b (gcd a b)
 gcd_is a b = gcd_by_is (suc b) a b (omega arith)
 
 size_is : (d : ℤ) → pos 0 <ℤ d → pos (unsigned_abs d) ≡ d
@@ -28,7 +28,7 @@ not_below (pos n) h = grind (arith, ints)
 not_below (negsuc n) h = absurd (omega (arith, ints))
 
 -- n / d by the greatest common divisor, where d is above 0
-lowest_is : (n d : ℤ) (g : ℕ) → pos 0 <ℤ d → IsGcd (unsigned_abs n) (unsigned_abs d) g →
+pub lowest_is : (n d : ℤ) (g : ℕ) → pos 0 <ℤ d → IsGcd (unsigned_abs n) (unsigned_abs d) g →
     record { num = int_div n (pos g); den = int_div d (pos g) } ≡ fraction n d
 lowest_is n d g p h =
     let e : g ≡ gcd (unsigned_abs n) (unsigned_abs d) = same_from_IsGcd (unsigned_abs n) (unsigned_abs d) g (gcd (unsigned_abs n) (unsigned_abs d)) h (gcd_is (unsigned_abs n) (unsigned_abs d)) in
@@ -67,7 +67,7 @@ divisor_some n d g p h = divisor_positive g (unsigned_abs d) h.1 (omega (arith, 
 divisor_small : (n d : ℤ) (g : ℕ) → pos 0 <ℤ d → IsGcd (unsigned_abs n) (unsigned_abs d) g → g ≤ unsigned_abs d
 divisor_small n d g p h = le_of_dvd (omega (arith, ints)) h.1
 
-positive_quotient : (n d : ℤ) (g : ℕ) → pos 0 <ℤ d → IsGcd (unsigned_abs n) (unsigned_abs d) g → pos 1 ≤ℤ int_div d (pos g)
+pub positive_quotient : (n d : ℤ) (g : ℕ) → pos 0 <ℤ d → IsGcd (unsigned_abs n) (unsigned_abs d) g → pos 1 ≤ℤ int_div d (pos g)
 positive_quotient n d g p h =
     let s = divisor_some n d g p h in
     let l : pos 0 <ℤ int_div d (pos g) = positive_of_product (pos g) (omega (arith, ints)) (subst (λ t. pos 0 <ℤ t) (exact d (pos g) h.1) p) in
@@ -86,7 +86,7 @@ carries k a g x h e =
     let s : unsigned_abs x ≡ g * unsigned_abs (int_div x (pos g)) = size_of_quotient x (pos g) (int_div x (pos g)) (exact x (pos g) h) in
     subst (λ t. (k * g) ∣ t) (regroup a k g ∙ ap (λ t. g * t) e ∙ sym s) (dvd-mul_left (k * g) a)
 
-quotients_reduced : (n d : ℤ) (g : ℕ) → pos 0 <ℤ d → IsGcd (unsigned_abs n) (unsigned_abs d) g → IsReduced (int_div n (pos g)) (int_div d (pos g))
+pub quotients_reduced : (n d : ℤ) (g : ℕ) → pos 0 <ℤ d → IsGcd (unsigned_abs n) (unsigned_abs d) g → IsReduced (int_div n (pos g)) (int_div d (pos g))
 quotients_reduced n d g p h = λ k a b e f.
     one_only k (dvd_of_mul-dvd-mul_right k (divisor_some n d g p h)
     (subst (λ t. (k * g) ∣ t) (sym (one-mul g)) (h.2 (k * g) (carries k a g n h.0 e) (carries k b g d h.1 f))))
