@@ -52,7 +52,7 @@ lowest_terms n d ne =
 below : (a b : ℕ) → nat_lt a b ≡ true → a < b
 below a b h = grind (arith, nat_tests)
 
-quotient_is : (n d k : ℤ) (limit : ℕ) → exact_quotient n d limit ≡ Some k → (k *ℤ d ≡ n) × (unsigned_abs k < limit)
+pub quotient_is : (n d k : ℤ) (limit : ℕ) → exact_quotient n d limit ≡ Some k → (k *ℤ d ≡ n) × (unsigned_abs k < limit)
 quotient_is n d k limit e = by (int_eq (int_div n d *ℤ d) n && nat_lt (unsigned_abs (int_div n d)) limit) refl e
   where
     by : (b : Bool) → (int_eq (int_div n d *ℤ d) n && nat_lt (unsigned_abs (int_div n d)) limit) ≡ b → cond b (Some (int_div n d)) None ≡ Some k → (k *ℤ d ≡ n) × (unsigned_abs k < limit)

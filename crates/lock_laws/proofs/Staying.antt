@@ -20,10 +20,10 @@ use Rattle.uv_lock.specs.declared.texture.Tex.TheVariants.{Standard, Valve}
 use Rattle.uv_lock.specs.declared.texture.ValveTex.{ValveTex}
 use Rattle.uv_lock.specs.Carry.{count_at, axis_vector, axis_at, scale_of, kept_offset, kept_product, offset_limit, turned_axes, carried_tex, carry}
 use Rattle.uv_lock.specs.Units.{axis_unit, offset_unit}
+use Rattle.uv_lock.proofs.Locks.{both_kept}
 use Rattle.uv_lock.proofs.Offsets.{quotient_there, scale_not_zero}
 use Rattle.lock_laws.specs.Laws.{HasLimits, IsInLimits}
 use Rattle.lock_laws.proofs.Carrying.{carry_after}
-use Rattle.lock_laws.proofs.Steps.{carried_by}
 
 dot_none : (v : Vector) → dot (vector_at (pos 0) (pos 0) (pos 0)) v ≡ pos 0
 unfolding dot
@@ -43,7 +43,7 @@ plain_stays : (t : ValveTex) (a b : Vector) (u v : ℤ) → unsigned_abs u < off
     carried_tex true stay (Valve (record t { axis = parts a ∷ parts b ∷ []; off = u ∷ v ∷ [] })) ≡ Some (Valve (record t { axis = parts a ∷ parts b ∷ []; off = u ∷ v ∷ [] }))
 plain_stays t a b u v h k =
     let n = record t { axis = parts a ∷ parts b ∷ []; off = u ∷ v ∷ [] } in
-    carried_by stay n u v (offset_stays u (count_at t.scale 0) a h) (offset_stays v (count_at t.scale 1) b k)
+    both_kept stay n u v (offset_stays u (count_at t.scale 0) a h) (offset_stays v (count_at t.scale 1) b k)
     ∙ ap (λ l. Some (Valve (record n { axis = l; off = u ∷ v ∷ [] }))) (axes_stay a b)
 
 tex_stays : (x : Tex) → IsInLimits x → carried_tex true stay x ≡ Some x
