@@ -18,7 +18,7 @@ use Rattle.uv_lock.specs.declared.texture.Tex.TheVariants.{Standard, Valve}
 use Rattle.uv_lock.specs.declared.texture.ValveTex.{ValveTex}
 use Rattle.uv_lock.specs.Carry.{count_at, axis_vector, axis_at, scale_of, exact_quotient, locked_product, locked_offset, offset_limit, turned_axes, carried_tex, carry}
 use Rattle.uv_lock.specs.Units.{offset_unit}
-use Rattle.uv_lock.proofs.Locks.{first_turned, second_turned}
+use Rattle.uv_lock.proofs.Locks.{turned_at}
 use Rattle.uv_lock.proofs.Options.{of_some}
 use Rattle.lock_laws.proofs.Steps.{mapped, moved_tex, Locked, locked}
 
@@ -48,9 +48,9 @@ tex_after_valve r s t y turn l =
     let n = moved_tex r t l.u l.v in
     let p = after s r in
     let e : locked_product s n 0 ≡ locked_product p t 0 = lock_after r s (count_at t.off 0 *ℤ scale_of (count_at t.scale 0)) (l.u *ℤ scale_of (count_at t.scale 0))
-    (axis_at t.axis 0) (axis_at (turned_axes r t.axis) 0) turn l.u_product (first_turned r.matrix t.axis) in
+    (axis_at t.axis 0) (axis_at (turned_axes r t.axis) 0) turn l.u_product (turned_at r.matrix t.axis 0) in
     let f : locked_product s n 1 ≡ locked_product p t 1 = lock_after r s (count_at t.off 1 *ℤ scale_of (count_at t.scale 1)) (l.v *ℤ scale_of (count_at t.scale 1))
-    (axis_at t.axis 1) (axis_at (turned_axes r t.axis) 1) turn l.v_product (second_turned r.matrix t.axis) in
+    (axis_at t.axis 1) (axis_at (turned_axes r t.axis) 1) turn l.v_product (turned_at r.matrix t.axis 1) in
     let g : locked_offset s n 0 ≡ locked_offset p t 0 = ap (λ k. exact_quotient k (scale_of (count_at t.scale 0)) offset_limit) e in
     let h : locked_offset s n 1 ≡ locked_offset p t 1 = ap (λ k. exact_quotient k (scale_of (count_at t.scale 1)) offset_limit) f in
     ap (carried_tex true s) (sym l.is)

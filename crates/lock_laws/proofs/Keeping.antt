@@ -16,7 +16,7 @@ use Rattle.uv_lock.specs.Carry.{count_at, axis_at, scale_of, kept_product, turne
 use Rattle.uv_lock.specs.Coordinates.{coordinate_along, coordinates}
 use Rattle.uv_lock.specs.Fractions.{fraction}
 use Rattle.uv_lock.specs.Units.{offset_unit}
-use Rattle.uv_lock.proofs.Locks.{first_turned, second_turned}
+use Rattle.uv_lock.proofs.Locks.{turned_at}
 use Rattle.lock_laws.proofs.Steps.{mapped, moved_tex, Locked, locked}
 
 -- how far a moved point is along the turned axis
@@ -41,8 +41,8 @@ kept_at : (r : Motion) (f : Face) (t : ValveTex) (y : Tex) (p : Homogeneous) →
 kept_at r f t y p turn l =
     ap (λ x. coordinates (record f { plane = moved_plane r f.plane; tex = x }) (moved_at r p)) (sym l.is)
     ∙ (λ i. Some (
-    along_kept r (count_at t.off 0) (count_at t.scale 0) l.u (axis_at t.axis 0) (axis_at (turned_axes r t.axis) 0) p turn (first_turned r.matrix t.axis) l.u_product i
-    ∷ along_kept r (count_at t.off 1) (count_at t.scale 1) l.v (axis_at t.axis 1) (axis_at (turned_axes r t.axis) 1) p turn (second_turned r.matrix t.axis) l.v_product i
+    along_kept r (count_at t.off 0) (count_at t.scale 0) l.u (axis_at t.axis 0) (axis_at (turned_axes r t.axis) 0) p turn (turned_at r.matrix t.axis 0) l.u_product i
+    ∷ along_kept r (count_at t.off 1) (count_at t.scale 1) l.v (axis_at t.axis 1) (axis_at (turned_axes r t.axis) 1) p turn (turned_at r.matrix t.axis 1) l.v_product i
     ∷ []))
 
 pub coordinates_kept : (r : Motion) (f g : Face) (t : ValveTex) (p : Homogeneous) → IsTurn r.matrix → f.tex ≡ Valve t → carry true r f ≡ Some g → coordinates g (moved_at r p) ≡ coordinates f p

@@ -16,8 +16,8 @@ use crate::standard::valve_fields;
 use exact_geom::Point;
 use fixed_num::{Frac, Nano, Pico};
 
-/// The texture coordinates u and v of the point on the face, in texels. `None` exactly where a Standard face has a
-/// rotation that is no multiple of 90 degrees.
+/// The texture coordinates u and v of a point on the face, in texels; the point is at most 4352 map units in size in each
+/// coordinate. `None` exactly where a Standard face has a rotation that is no multiple of 90 degrees.
 pub fn uv_at(f: &Face, at: Point) -> Option<[Frac; 2]>
     requires { IsTrue (is_in_range at) }
     ensures { option_map (map fraction_of) result ≡ coordinates f.now (whole_point (vector at)) }
@@ -30,6 +30,7 @@ pub fn uv_at(f: &Face, at: Point) -> Option<[Frac; 2]>
     ])
 }
 
+// Along one axis.
 fn coordinate(axis: [Nano; 3], off: Pico, scale: Nano, at: [i32; 3]) -> Frac
     requires { IsTrue (is_short (vector_in at)) }
     ensures { fraction_of result ≡ coordinate_along off scale (axis_vector axis) (whole_point (vector_in at)) }

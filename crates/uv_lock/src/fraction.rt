@@ -19,7 +19,7 @@ fn lowest(num: i128, den: i128) -> Frac
     }
 }
 
-/// The fraction of two numbers, both at most 10^34 in size.
+/// The fraction `num / den` in lowest terms; `den` isn't 0, and neither is above 10^34 in size.
 pub(crate) fn reduced(num: i128, den: i128) -> Frac
     requires nonzero { den ≢ pos 0 }
     requires num { unsigned_abs num ≤ 10 ^ 34 }
