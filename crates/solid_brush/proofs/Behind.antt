@@ -71,7 +71,7 @@ new_tag sides poly i s h l e b t m = ⊎_elim
 pub at_start : (sides : List Side) (poly : List Tagged) → poly ≡ cube_sides → StandsForAll (all_planes (take 0 sides)) poly
 at_start sides poly q = subst (λ l. StandsForAll cube_sides l) (sym q) cube_trims
 
-not_gone : (c : Cut) → is_gone c ≡ false → ¬ (c ≡ Gone)
+pub not_gone : (c : Cut) → is_gone c ≡ false → ¬ (c ≡ Gone)
 not_gone Missed q e = absurd (cc)
 not_gone Halved q e = absurd (cc)
 not_gone Gone q e = absurd (cc)

@@ -6,3 +6,5 @@ pub mod Unboxed
 pub mod Faces
 pub mod Fewness
 pub mod Retagged
+pub mod Blocks
+pub mod Meeting

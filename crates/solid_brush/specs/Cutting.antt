@@ -14,6 +14,10 @@ use Rattle.solid_brush.specs.Sides.{IsSolid}
 abbrev pub tagged : Side → Tagged
 tagged s = record { plane = s.plane; tag = s.tag }
 
+-- The tagged plane as a side.
+abbrev pub untagged : Tagged → Side
+untagged s = record { plane = s.plane; tag = s.tag }
+
 -- The faces of the larger cube, and the sides.
 abbrev pub all_planes : List Side → List Tagged
 all_planes sides = cube_sides ++ map tagged sides

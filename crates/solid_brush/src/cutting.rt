@@ -1,8 +1,9 @@
 //! The polyhedron behind sides.
 
-ghost use Rattle.std.specs.Prelude.{◌≡◌, ◌<◌, map, IfOk};
-ghost use Rattle.half_poly.specs.Shapes.{Tagged, solid_of};
-ghost use Rattle.half_poly.specs.Trims.{StandsForAll};
+ghost use Rattle.std.specs.Prelude.{◌≡◌, ◌<◌, map, IfOk, OnErr};
+ghost use Rattle.algebra.specs.Members.{Every};
+ghost use Rattle.exact_geom.specs.Planes.{IsPlane};
+ghost use Rattle.half_poly.specs.Shapes.{Says};
 ghost use Rattle.solid_brush.specs.Sides.{HaveTags};
 ghost use Rattle.solid_brush.specs.Cutting.{tagged, is_gone, IsBehind};
 
@@ -13,36 +14,41 @@ use std::alloc::{AllocError, Global};
 use std::marker::Brand;
 use std::sync::ledger::{Blank, Ledger};
 
-// Whether nothing is left.
-fn is_gone(cut: Cut) -> bool
+/// Whether nothing is left.
+pub(crate) fn is_gone(cut: Cut) -> bool
     ensures { result ≡ is_gone cut }
 {
     matches!(cut, Cut::Gone)
 }
 
-// What is left of the cube behind the sides.
-fn behind_each<L: Ledger>(
+// Cuts the polyhedron, with a count of steps of its own.
+fn cut_once<L: Ledger>(
     alloc: Global,
-    sides: &[Side],
+    poly: &mut Poly,
+    side: &Side,
     blank: Blank,
-) -> Result<Option<Poly>, AllocError>
+) -> Result<Cut, AllocError>
     requires name { blank.name ≡ L.name }
     requires parts { blank.parts ≡ L.parts }
     requires some { 0 < L.parts }
-    requires tags { HaveTags sides.now }
-    ensures { IfOk result (IsBehind sides.now) }
+    requires new { Every (λ s. ¬ (s.tag ≡ side.now.tag)) poly.old }
+    ensures proper { IsPlane side.now.plane }
+    ensures says { IfOk result (Says poly.old (tagged side.now) poly.new) }
+    ensures err { OnErr result (poly.new ≡ poly.old) }
 {
-    let mut steps = Steps::<L>::new(blank);
-    let mut poly = Poly::cube(alloc)?;
-    for side in sides {
-        // What it reads tells that the normal isn't zero.
-        let _points = side.plane.points();
-        let cut = poly.cut(alloc, &side.plane, side.tag, &mut steps)?;
-        if is_gone(cut) {
-            return Ok(None);
-        }
-    }
-    Ok(Some(poly))
+    // What it reads tells that the normal isn't zero.
+    let _points = side.plane.points();
+    poly.cut(alloc, &side.plane, side.tag, &mut Steps::<L>::new(blank))
+}
+
+/// Cuts the polyhedron by a side.
+pub(crate) fn cut_poly(alloc: Global, poly: &mut Poly, side: &Side) -> Result<Cut, AllocError>
+    requires new { Every (λ s. ¬ (s.tag ≡ side.now.tag)) poly.old }
+    ensures proper { IsPlane side.now.plane }
+    ensures says { IfOk result (Says poly.old (tagged side.now) poly.new) }
+    ensures err { OnErr result (poly.new ≡ poly.old) }
+{
+    cut_once::<Brand>(alloc, poly, side, Blank::new(1))
 }
 
 /// What is left of the cube from -4352 to 4352 behind the sides, or `None` where nothing is inside.
@@ -50,7 +56,14 @@ pub(crate) fn behind(alloc: Global, sides: &[Side]) -> Result<Option<Poly>, Allo
     requires tags { HaveTags sides.now }
     ensures { IfOk result (IsBehind sides.now) }
 {
-    behind_each::<Brand>(alloc, sides, Blank::new(1))
+    let mut poly = Poly::cube(alloc)?;
+    for side in sides {
+        let cut = cut_poly(alloc, &mut poly, side)?;
+        if is_gone(cut) {
+            return Ok(None);
+        }
+    }
+    Ok(Some(poly))
 }
 
 /// The sides that are the faces of the polyhedron, in order.

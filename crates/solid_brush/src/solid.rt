@@ -1,12 +1,15 @@
 //! Valid brushes.
 
-ghost use Rattle.std.specs.Prelude.{◌≡◌, ◌+◌, ◌^◌, ◌<◌, ◌≤◌, map, length, IfOk, IfErr, IfSome};
+ghost use Rattle.std.specs.Prelude.{◌≡◌, ◌+◌, ◌^◌, ◌<◌, ◌≤◌, ◌++◌, map, length, IfOk, IfErr, IfSome};
 ghost use Rattle.algebra.specs.Members.{Every};
 ghost use Rattle.solid_laws.specs.FaceLoop.{HasVertexCount, HasVertex, HasLoopVertex};
 ghost use Rattle.solid_brush.specs.Sides.{half_spaces, HaveTags, IsSolid, IsBuiltOf, IsRefusedFor, with_base};
+ghost use Rattle.solid_brush.specs.Blocks.{IsLeft, NeedsTooMany};
 
+use crate::block::Block;
 use crate::cutting::{behind, sides_of};
 use crate::fault::BuildFault;
+use crate::meet_fault::MeetFault;
 use crate::side::{Side, add_to_tags};
 use crate::world::lies_in_world;
 use exact_geom::HVertex;
@@ -15,17 +18,17 @@ use std::alloc::{AllocError, Global};
 use std::marker::Model;
 
 // More faces no brush may need.
-const MOST_FACES: usize = 128;
+pub(crate) const MOST_FACES: usize = 128;
 
 /// A valid brush: a convex solid with a volume, in the world, with the 4 to 128 sides that it needs and no other.
 /// A contract sees the list of its sides.
 #[derive(Drop)]
 #[derive_where(Debug)]
 pub struct Solid {
-    sides: Vec<Side>,
+    pub(crate) sides: Vec<Side>,
     // The same sides as a polyhedron.
     #[derive_where(skip)]
-    poly: Poly,
+    pub(crate) poly: Poly,
 }
 
 impl Model for Solid {
@@ -64,6 +67,32 @@ impl Solid {
             return Err(BuildFault::TooManyFaces(kept.len() as u32));
         }
         Ok(Solid { sides: kept, poly })
+    }
+
+    /// What of the brush lies behind further sides too: of all the sides the faces that are needed, in their order, and of sides
+    /// that bound the same half-space the first. `None` exactly where no point is inside all of them.
+    ///
+    /// It is refused exactly where more than 128 faces are needed, with their count, but that `Memory`, for want of memory, may
+    /// come in place of any answer.
+    pub fn meet(&self, alloc: Global, more: &[Side]) -> Result<Option<Solid>, MeetFault>
+        requires tags { HaveTags (self.now ++ more.now) }
+        ensures left { IfOk result (IsLeft (self.now ++ more.now)) }
+        ensures solid { IfOk result (λ met. IfSome met IsSolid) }
+        ensures fault { IfErr result (NeedsTooMany (self.now ++ more.now)) }
+    {
+        let Some(block) = self.block(alloc)?.meet(alloc, more)? else {
+            return Ok(None);
+        };
+        Ok(Some(block.solid(alloc)?))
+    }
+
+    /// The brush as a block, or an error for want of memory.
+    pub fn block(&self, alloc: Global) -> Result<Block, AllocError>
+        ensures same { IfOk result (λ block. block ≡ self.now) }
+    {
+        Ok(Block {
+            poly: self.poly.copy(alloc)?,
+        })
     }
 
     /// The sides, in order.
