@@ -1,5 +1,5 @@
 -- Sides that cut a block one after another; and blocks as solids.
-use Rattle.std.proofs.Common.{◌≡◌, ℕ, zero, suc, ◌+◌, ◌^◌, ◌<◌, ◌≤◌, Bool, true, false, List, [], ◌∷◌, ◌++◌, length, map, take, get_or, Option, Some, Result, Err, IfErr, append-nil, add-one, refl, sym, ap, subst, ◌∙◌, arith, ℤ, pos, ◌-ℤ◌, ◌*ℤ◌, ◌<ℤ◌}
+use Rattle.std.proofs.Common.{◌≡◌, ℕ, zero, suc, ◌+◌, ◌^◌, ◌<◌, ◌≤◌, Bool, true, false, List, [], ◌∷◌, ◌++◌, length, map, take, get_or, Option, None, Some, Result, Err, IfErr, append-nil, add-one, refl, sym, ap, subst, ◌∙◌, arith, ℤ, pos, ◌-ℤ◌, ◌*ℤ◌, ◌<ℤ◌}
 use Rattle.std.proofs.lemmas.Int.{ints}
 use Rattle.std.proofs.lemmas.Result.{err_from_is_err_and}
 use Rattle.std.specs.Result.{IsErrAnd}
@@ -138,6 +138,9 @@ block_is sides poly copy now k q r = ap (map untagged) (q ∙ k.same) ∙ tagged
 -- ---- what is told of solids
 pub met_left : (first now more : List Side) (left : Option (List Side)) (block solid : List Side) → first ≡ now → IsLeft (first ++ more) left → left ≡ Some block → solid ≡ block → IsTrimmedTo (now ++ more) solid
 met_left first now more left block solid q t e r = subst (IsTrimmedTo (now ++ more)) (sym r) (subst (IsLeft (now ++ more)) e (subst (λ l. IsLeft (l ++ more) left) q t))
+
+pub none_left : (first now more : List Side) (left : Option (List Side)) → first ≡ now → IsLeft (first ++ more) left → left ≡ None → IsEmpty (now ++ more)
+none_left first now more left q t e = subst (IsLeft (now ++ more)) e (subst (λ l. IsLeft (l ++ more) left) q t)
 
 pub overfull : (sides block : List Side) → IsTrimmedTo sides block → (e : MeetFault) → IsOverfull block e → NeedsTooMany sides e
 overfull sides block t (Overfull n) h = record { kept = half_spaces block; trim = (trim_faces Side bounds sides block t.trim).half_spaces; count = length-map block bounds ∙ h.0; above = h.1 }

@@ -1,9 +1,10 @@
 //! Blocks, from which brushes are cut.
 
-ghost use Rattle.std.specs.Prelude.{◌≡◌, ◌<◌, ◌^◌, ◌++◌, ◌∷◌, [], IfOk, IfErr, OnErr};
+ghost use Rattle.std.specs.Prelude.{◌≡◌, ◌<◌, ◌^◌, List, ◌++◌, ◌∷◌, [], IfOk, IfErr, OnErr};
 ghost use Rattle.algebra.specs.Members.{Every};
 ghost use Rattle.solid_brush.specs.Sides.{HaveTags, IsSolid};
-ghost use Rattle.solid_brush.specs.Blocks.{IsCut, IsLeft, IsOverfull};
+ghost use Rattle.solid_brush.specs.Blocks.{IsTrimmedTo, IsCut, IsLeft, IsOverfull};
+ghost use Rattle.solid_brush.specs.declared.side.Side.{Side};
 
 use crate::cutting::{cut_poly, is_gone, sides_of};
 use crate::meet_fault::MeetFault;
@@ -46,11 +47,12 @@ impl Block {
         Ok(!is_gone(cut))
     }
 
-    /// What is left of the block behind further sides: with them it is trimmed to the faces that are needed. `None` exactly where
-    /// no point is inside all of them.
+    /// What is left of the block behind further sides: with them it is trimmed to the faces that are needed, and so is whatever the
+    /// block was trimmed from. `None` exactly where no point is inside all of them.
     pub fn meet(mut self, alloc: Global, more: &[Side]) -> Result<Option<Block>, AllocError>
         requires tags { HaveTags (self ++ more.now) }
-        ensures { IfOk result (IsLeft (self ++ more.now)) }
+        ensures left { IfOk result (IsLeft (self ++ more.now)) }
+        ensures further { (all : List Side) → IsTrimmedTo all self → IfOk result (IsLeft (all ++ more.now)) }
     {
         // What it reads tells that the block is trimmed.
         let _poly = &self.poly;

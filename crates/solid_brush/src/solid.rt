@@ -4,7 +4,7 @@ ghost use Rattle.std.specs.Prelude.{◌≡◌, ◌+◌, ◌^◌, ◌<◌, ◌≤
 ghost use Rattle.algebra.specs.Members.{Every};
 ghost use Rattle.solid_laws.specs.FaceLoop.{HasVertexCount, HasVertex, HasLoopVertex};
 ghost use Rattle.solid_brush.specs.Sides.{half_spaces, HaveTags, IsSolid, IsBuiltOf, IsRefusedFor, with_base};
-ghost use Rattle.solid_brush.specs.Blocks.{IsLeft, NeedsTooMany};
+ghost use Rattle.solid_brush.specs.Blocks.{IsTrimmedTo, IsLeft, NeedsTooMany};
 
 use crate::block::Block;
 use crate::cutting::{behind, sides_of};
@@ -89,6 +89,7 @@ impl Solid {
     /// The brush as a block, or an error for want of memory.
     pub fn block(&self, alloc: Global) -> Result<Block, AllocError>
         ensures same { IfOk result (λ block. block ≡ self.now) }
+        ensures trimmed { IfOk result (IsTrimmedTo self.now) }
     {
         Ok(Block {
             poly: self.poly.copy(alloc)?,
