@@ -1,0 +1,4 @@
+pub mod Halving
+pub mod Common
+pub mod Pieces
+pub mod Overfull
