@@ -1,6 +1,6 @@
 -- Documents of old files, in which each number of a texture has six decimals, and the documents that they are today; with a law that
 -- old files keep their bytes.
-use Rattle.std.specs.Prelude.{◌≡◌, ◌*ℤ◌, ◌^◌, Bool, ◌&&◌, nat_lt, is_none, List, [], ◌∷◌, map, ℤ, pos, unsigned_abs, IsTrue}
+use Rattle.std.specs.Prelude.{◌≡◌, ◌*ℤ◌, ◌^◌, Bool, ◌&&◌, nat_lt, is_none, ◌∷◌, map, ℤ, pos, unsigned_abs, IsTrue}
 use Rattle.std.specs.List.{list_all}
 use Rattle.uv_lock.specs.declared.face.Face.{Face}
 use Rattle.uv_lock.specs.declared.texture.Tex.{Tex}

@@ -1,4 +1,4 @@
-use Rattle.std.proofs.Common.{◌≡◌, ◌++◌, ◌∷◌, [], slice_index_or, ap, ◌∙◌}
+use Rattle.std.proofs.Common.{◌≡◌, ◌++◌, ap, ◌∙◌}
 use Rattle.map_text.specs.Grammar.{texture_symbols}
 use Rattle.map_write.specs.Written.{kept, line_of, texture_text}
 use Rattle.map_write.proofs.WriteLemmas.{turn_text, valve_written, on_ok}
