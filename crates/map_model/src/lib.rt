@@ -12,6 +12,7 @@ ghost use Rattle.map_model.specs.Below.{SomeAreRight};
 ghost use Rattle.map_model.specs.History.{AddLaw, UndoLaw, RedoLaw};
 ghost use Rattle.map_model.specs.Meant.{TrimmedLaw, InsideLaw, OneTrimLaw, PiecesLaw, VerticesLaw, JudgedLaw};
 ghost use Rattle.map_model.specs.Promises.{OneOutcomeLaw};
+ghost use Rattle.map_model.specs.Replies.{KeptLaw};
 ghost use Rattle.map_model.specs.Session.{RepliesLaw, FrontLaw};
 
 /// Some tests on solids are right, so that what holds for whatever right tests does hold.
@@ -67,6 +68,11 @@ pub fn undo_law()
 /// Redo goes to the map after.
 pub fn redo_law()
     ensures { RedoLaw }
+{}
+
+/// Replies keep fractions as they are.
+pub fn kept_law()
+    ensures { KeptLaw }
 {}
 
 /// No reply of the session can be taken for the line `memory`.

@@ -1,16 +1,18 @@
 -- Fractions in lowest terms have a denominator of at least 1, and no number above 1 divides both of their numbers.
-use Rattle.std.proofs.Common.{◌≡◌, ℕ, zero, suc, ◌*◌, ◌/◌, ◌%◌, ◌<◌, ◌≤◌, Bool, true, false, cond, refl, sym, ap, subst, ◌∙◌, arith, lit<, one-mul, ℤ, pos, neg_ℤ, ◌≤ℤ◌, unsigned_abs}
+use Rattle.std.proofs.Common.{◌≡◌, ℕ, zero, suc, ◌*◌, ◌/◌, ◌%◌, ◌<◌, ◌≤◌, Bool, true, false, cond, refl, sym, ap, subst, ◌∙◌, arith, lit<, one-mul, ℤ, pos, neg_ℤ, ◌<ℤ◌, ◌≤ℤ◌, unsigned_abs}
 use Rattle.std.specs.Int.{◌∣◌, IsGcd}
-use Rattle.std.specs.Prelude.{int_div, int_lt}
+use Rattle.std.specs.Prelude.{int_div, int_lt, T}
+use Rattle.std.specs.Int.Signed.{lt_z_yes}
 use Rattle.std.specs.Ordering.{int_eq}
 use Rattle.std.proofs.lemmas.Bool.{true≢false}
 use Rattle.std.proofs.lemmas.Bool.Decides.{Decides-int_eq}
 use Rattle.std.proofs.lemmas.Int.{ints}
 use Rattle.std.proofs.lemmas.Nat.Gcd.{IsGcd-from_zero, IsGcd-from_mod, le_of_dvd}
-use Rattle.std.proofs.Math.Nat.{mod-lt, eq-zero_of_zero-dvd, dvd-mul_right, dvd_of_mul-dvd-mul_right}
+use Rattle.std.proofs.Math.Nat.{mod-lt, eq-zero_of_zero-dvd, one-dvd, dvd-mul_right, dvd_of_mul-dvd-mul_right, mul-div_cancel'}
 use Rattle.exact_geom.proofs.Division.{divisor_positive, exact, size_of_quotient, size_positive}
 use Rattle.fixed_num.specs.Fraction.{IsReduced}
-use Rattle.map_nodes.specs.Fractions.{gcd_by, gcd, fraction, not_zero, lowest}
+use Rattle.fixed_num.specs.declared.fraction.Frac.{Frac}
+use Rattle.map_nodes.specs.Fractions.{gcd_by, gcd, fraction, fraction_of, not_zero, lowest}
 
 gcd_by_is : (k a b : ℕ) → b < k → IsGcd a b (gcd_by k a b)
 gcd_by_is zero a b h = absurd (omega arith)
@@ -82,3 +84,38 @@ den_is_positive n d = positive n (not_zero d) (not_zero_some d)
 
 pub is_in_lowest_terms : (n d : ℤ) → IsReduced (lowest n d).num (lowest n d).den
 is_in_lowest_terms n d = in_lowest_terms n (not_zero d) (not_zero_some d)
+
+-- Numbers in lowest terms stay.
+int_div-one : (x : ℤ) → int_div x (pos 1) ≡ x
+int_div-one x = let e = exact x (pos 1) (one-dvd (unsigned_abs x)) in omega (arith, ints, e)
+
+not_zero_is : (d : ℤ) → pos 1 ≤ℤ d → int_eq d (pos 0) ≡ false
+not_zero_is d h = by (int_eq d (pos 0)) refl
+  where
+    by : (t : Bool) → int_eq d (pos 0) ≡ t → int_eq d (pos 0) ≡ false
+    by true e = let z = (Decides-int_eq d (pos 0)).0 e in absurd (omega (arith, ints))
+    by false e = e
+
+not_below : (d : ℤ) → pos 1 ≤ℤ d → int_lt d (pos 0) ≡ false
+not_below d h = by (int_lt d (pos 0)) refl
+  where
+    by : (t : Bool) → int_lt d (pos 0) ≡ t → int_lt d (pos 0) ≡ false
+    by true e = let below : d <ℤ pos 0 = lt_z_yes (subst T (sym e) tt) in absurd (omega (arith, ints))
+    by false e = e
+
+positive_size : (d : ℤ) → pos 1 ≤ℤ d → pos (unsigned_abs d) ≡ d
+positive_size d h = omega (arith, ints)
+
+divisor_is_one : (n d : ℤ) → IsReduced n d → gcd (unsigned_abs n) (unsigned_abs d) ≡ 1
+divisor_is_one n d reduced =
+    let g = gcd (unsigned_abs n) (unsigned_abs d) in
+    let is = gcd_is (unsigned_abs n) (unsigned_abs d) in
+    reduced g (unsigned_abs n / g) (unsigned_abs d / g) (mul-div_cancel' g is.0) (mul-div_cancel' g is.1)
+
+pub lowest_again : (f : Frac) → lowest f.num f.den ≡ fraction_of f
+lowest_again f =
+    let n = f.num in let d = f.den in
+    let one = divisor_is_one n d f.reduced in
+    ap (fraction n) (ap (λ t. cond t (pos 1) d) (not_zero_is d f.positive))
+    ∙ (λ i. record { num = int_div (cond (not_below d f.positive i) (neg_ℤ n) n) (pos (one i)); den = int_div (pos (unsigned_abs d)) (pos (one i)) })
+    ∙ (λ i. record { num = int_div-one n i; den = (int_div-one (pos (unsigned_abs d)) ∙ positive_size d f.positive) i })

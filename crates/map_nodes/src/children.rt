@@ -1,6 +1,6 @@
 //! The children of nodes.
 
-ghost use Rattle.std.specs.Prelude.{◌≡◌, true, false, [], ◌∷◌, ◌++◌, OnOk};
+ghost use Rattle.std.specs.Prelude.{◌≡◌, true, false, [], ◌∷◌, ◌++◌, OnOk, OnErr};
 ghost use Rattle.map_nodes.specs.Lists.{without, in_place};
 ghost use Rattle.map_nodes.specs.Nodes.{list_of, with_list, relist};
 
@@ -83,25 +83,27 @@ impl Node {
         }
     }
 
-    /// Adds a child at the end of the list of brushes, or of the others.
+    /// Adds a child at the end of the list of brushes, or of the others. After an error the node is as before.
     pub fn add_child(&mut self, alloc: Global, brush: bool, id: NodeId) -> Result<(), AllocError>
-        ensures { OnOk result (self.new ≡ relist brush (λ l. l ++ id ∷ []) self.old) }
+        ensures ok { OnOk result (self.new ≡ relist brush (λ l. l ++ id ∷ []) self.old) }
+        ensures err { OnErr result (self.new ≡ self.old) }
     {
         let list = with_one_more(alloc, self.list(brush), id)?;
         self.put_list(brush, list);
         Ok(())
     }
 
-    /// Takes a child out of the list of brushes, or of the others.
+    /// Takes a child out of the list of brushes, or of the others. After an error the node is as before.
     pub fn remove_child(&mut self, alloc: Global, brush: bool, id: NodeId) -> Result<(), AllocError>
-        ensures { OnOk result (self.new ≡ relist brush (without id) self.old) }
+        ensures ok { OnOk result (self.new ≡ relist brush (without id) self.old) }
+        ensures err { OnErr result (self.new ≡ self.old) }
     {
         let list = without(alloc, self.list(brush), id)?;
         self.put_list(brush, list);
         Ok(())
     }
 
-    /// Puts children in the place of one.
+    /// Puts children in the place of one. After an error the node is as before.
     pub fn replace_child(
         &mut self,
         alloc: Global,
@@ -109,7 +111,8 @@ impl Node {
         id: NodeId,
         new: &[NodeId],
     ) -> Result<(), AllocError>
-        ensures { OnOk result (self.new ≡ relist brush (in_place id new.now) self.old) }
+        ensures ok { OnOk result (self.new ≡ relist brush (in_place id new.now) self.old) }
+        ensures err { OnErr result (self.new ≡ self.old) }
     {
         let list = with_in_place(alloc, self.list(brush), id, new)?;
         self.put_list(brush, list);

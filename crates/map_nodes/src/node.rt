@@ -1,6 +1,6 @@
 //! The nodes of maps.
 
-ghost use Rattle.std.specs.Prelude.{◌≡◌, is_some, IfOk, OnOk};
+ghost use Rattle.std.specs.Prelude.{◌≡◌, is_some, IfOk, OnOk, OnErr};
 ghost use Rattle.map_text.specs.Meaning.{put_property};
 ghost use Rattle.map_nodes.specs.Nodes.{link_of, kind_of, is_frozen, props_of, has_own_props, has_kind, brush, parent_of, with_parent, with_frozen, with_format, with_faces, with_props};
 ghost use Rattle.map_nodes.specs.Pairs.{without_key};
@@ -55,6 +55,7 @@ pub enum Node {
 }
 
 impl Node {
+    /// Whether it is a brush.
     pub fn is_brush(&self) -> bool
         ensures { result ≡ has_kind brush self.now }
     {
@@ -67,6 +68,7 @@ impl Node {
         }
     }
 
+    /// Whether it is a linked group.
     pub fn is_linked(&self) -> bool
         ensures { result ≡ is_some (link_of self.now) }
     {
@@ -196,9 +198,10 @@ impl Node {
         }
     }
 
-    /// Gives a key a value among the properties. A brush has none, and stays.
+    /// Gives a key a value among the properties. A brush has none, and stays. After an error the node is as before.
     pub fn set_value(&mut self, alloc: Global, key: &[u8], value: &[u8]) -> Result<(), AllocError>
-        ensures { OnOk result (self.new ≡ with_props (put_property key.now value.now (props_of self.old)) self.old) }
+        ensures ok { OnOk result (self.new ≡ with_props (put_property key.now value.now (props_of self.old)) self.old) }
+        ensures err { OnErr result (self.new ≡ self.old) }
     {
         match self {
             Node::World { props, .. } => props.set(alloc, key, value),

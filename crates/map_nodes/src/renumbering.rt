@@ -1,6 +1,6 @@
 //! Other numbers in the place of those that nodes name.
 
-ghost use Rattle.std.specs.Prelude.{◌≡◌, map, IfOk, OnOk};
+ghost use Rattle.std.specs.Prelude.{◌≡◌, map, IfOk, OnOk, OnErr};
 ghost use Rattle.map_nodes.specs.Nodes.{renumber, number_in};
 
 use crate::node::Node;
@@ -35,9 +35,11 @@ fn renumbered(
 }
 
 impl Node {
-    /// Puts the numbers of the table in the place of those of the parent and of the children.
+    /// Puts the numbers of the table in the place of those of the parent and of the children. After an error the node is as
+    /// before.
     pub fn renumber(&mut self, alloc: Global, table: &HashMap<u32, u32>) -> Result<(), AllocError>
-        ensures { OnOk result (self.new ≡ renumber (number_in table.now) self.old) }
+        ensures ok { OnOk result (self.new ≡ renumber (number_in table.now) self.old) }
+        ensures err { OnErr result (self.new ≡ self.old) }
     {
         let brushes = renumbered(alloc, self.list(true), table)?;
         let others = renumbered(alloc, self.list(false), table)?;

@@ -1,10 +1,10 @@
 -- The map with the world alone has the shape of a map.
-use Rattle.std.proofs.Common.{◌≡◌, ◌≢◌, ℕ, zero, suc, ◌<◌, ◌≤◌, true, false, List, [], ◌∷◌, Option, Some, None, is_some, refl, ap, sym, subst, ◌∙◌, arith, count_by, ◌==◌}
+use Rattle.std.proofs.Common.{◌≡◌, ℕ, zero, suc, ◌≤◌, true, false, List, [], ◌∷◌, Option, Some, None, is_some, refl, ap, sym, subst, ◌∙◌, arith}
 use Rattle.std.specs.Prelude.{IsTrue}
 use Rattle.algebra.specs.Members.{◌∈◌}
 use Rattle.uv_lock.specs.declared.texture.Format.{Format}
-use Rattle.map_model.specs.Tree.{Node, World, whole, at, up, over, children, brushes_at, others_at, has, kind_of, is_kind, is_brush, is_linked, mark_at, set_at, world, group}
-use Rattle.map_model.specs.Shape.{Shape, Standing, EachNode, Numbers, Marks, NodeOk, PropsOk, Rooted, the_world, may_hold}
+use Rattle.map_model.specs.Tree.{Node, World, whole, at, up, over, children, brushes_at, others_at, is_kind, is_linked, mark_at, set_at, world, group}
+use Rattle.map_model.specs.Shape.{Shape, Standing, EachNode, Numbers, Marks, NodeOk, Rooted, the_world}
 use Rattle.map_model.specs.Machine.{empty_map}
 use Rattle.tree_node.specs.Held.{IsMap}
 

@@ -1,5 +1,5 @@
 -- Entries whose numbers rise: where a number stands, and what is put there.
-use Rattle.std.proofs.Common.{◌≡◌, ◌≢◌, ◌⊎◌, inl, inr, ℕ, zero, suc, ◌+◌, ◌-◌, ◌<◌, ◌≤◌, List, [], ◌∷◌, ◌++◌, length, take, drop, get_or, set as list_set, Option, Some, None, Bool, true, false, cond, ◌==◌, refl, ap, sym, subst, ◌∙◌, arith, eqb-true, ne_eqb, eq-eqb}
+use Rattle.std.proofs.Common.{◌≡◌, ◌≢◌, ◌⊎◌, inl, inr, ℕ, zero, suc, ◌+◌, ◌-◌, ◌<◌, ◌≤◌, List, [], ◌∷◌, length, get_or, set as list_set, Option, Some, Bool, true, false, cond, ◌==◌, refl, ap, sym, subst, ◌∙◌, arith, eqb-true, ne_eqb, eq-eqb}
 use Rattle.std.specs.List.{insert, slice_get}
 use Rattle.map_nodes.specs.declared.node.Node.{Node}
 use Rattle.map_nodes.specs.declared.entry.Entry.{Entry}

@@ -1,5 +1,5 @@
 -- Tables of new numbers.
-use Rattle.std.proofs.Common.{◌≡◌, ℕ, suc, ◌+◌, ◌-◌, ◌<◌, List, ◌∷◌, length, get_or, drop, Bool, true, false, cond, nat_eq, ◌==◌, Option, Some, unwrap_or, refl, ap, ap₂, sym, ◌∙◌, arith, drop-cons, add-one}
+use Rattle.std.proofs.Common.{◌≡◌, ℕ, ◌+◌, ◌<◌, List, length, get_or, drop, Bool, true, false, cond, nat_eq, Option, Some, unwrap_or, refl, ap, ap₂, sym, ◌∙◌, arith, drop-cons, add-one}
 use Rattle.std.specs.HashMap.{HashMap, get}
 use Rattle.map_nodes.specs.Nodes.{number_in}
 use Rattle.map_model.specs.Edits.{renumbered, numbered_from}

@@ -1,13 +1,12 @@
 -- Entries whose nodes are those of the map are dropped.
-use Rattle.std.proofs.Common.{◌≡◌, ◌≢◌, ℕ, zero, suc, ◌<◌, List, [], ◌∷◌, length, get_or, Bool, true, false, cond, ◌==◌, refl, ap, sym, subst, ◌∙◌, arith, eqb-true}
+use Rattle.std.proofs.Common.{◌≡◌, ◌≢◌, ℕ, ◌<◌, List, [], ◌∷◌, length, Bool, true, false, cond, ◌==◌, refl, ap, sym, subst, ◌∙◌, arith, eqb-true}
 use Rattle.std.specs.Bool.{MatchBool}
 use Rattle.std.specs.List.Retain.{ReturnsInTurn, IsFiltered}
 use Rattle.std.specs.List.{items_where_true}
 use Rattle.algebra.specs.Members.{◌∈◌, here, there}
-use Rattle.map_nodes.specs.declared.node.Node.{Node}
 use Rattle.map_nodes.specs.declared.entry.Entry.{Entry}
 use Rattle.map_model.specs.Tree.{Whole, at}
-use Rattle.map_model.specs.Edits.{swap, Changes}
+use Rattle.map_model.specs.Edits.{swap}
 use Rattle.map_model.specs.History.{Tight}
 use Rattle.tree_node.specs.Held.{by_entries, Above, Rising, KeepsDifferent}
 use Rattle.tree_node.proofs.Changes.{at-swap, same_whole}

@@ -1,5 +1,5 @@
 -- Edits one after another.
-use Rattle.std.proofs.Common.{◌≡◌, ℕ, zero, suc, ◌+◌, ◌<◌, ◌≤◌, List, [], ◌∷◌, ◌++◌, length, take, drop, map, get_or, Option, Some, None, refl, ap, ap₂, sym, ◌∙◌, arith, drop-cons, add-one}
+use Rattle.std.proofs.Common.{◌≡◌, ℕ, zero, suc, ◌+◌, ◌<◌, ◌≤◌, List, [], ◌∷◌, ◌++◌, length, take, drop, map, get_or, None, refl, ap, ap₂, sym, ◌∙◌, arith, drop-cons, add-one}
 use Rattle.std.proofs.lemmas.List.{take_more, take_all, drop_all}
 use Rattle.map_model.specs.Tree.{Whole, Node, numbers_from}
 use Rattle.map_model.specs.Edits.{set, draw, forget, take_out, put_in, move_all, each_in_turn, Changes, swap}

@@ -1,4 +1,4 @@
-//! Copies of nodes with all beneath them.
+//! Copies of nodes with all beneath them. After an error the change may be partly filled; its owner then drops it.
 
 ghost use Rattle.std.specs.Prelude.{◌≡◌, ℕ, ◌+◌, ◌≤◌, length, IfOk, OnOk};
 ghost use Rattle.map_nodes.specs.Nodes.{number_in};

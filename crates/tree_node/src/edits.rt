@@ -1,6 +1,7 @@
-//! Edits of the tree: where nodes stand.
+//! Edits of the tree: where nodes stand. An edit of several steps may leave the change partly filled after an error; its owner
+//! then drops the change.
 
-ghost use Rattle.std.specs.Prelude.{◌≡◌, ◌+◌, ◌<◌, ◌≤◌, length, map, None, OnOk, IfOk};
+ghost use Rattle.std.specs.Prelude.{◌≡◌, ◌+◌, ◌<◌, ◌≤◌, length, map, None, OnOk, OnErr, IfOk};
 ghost use Rattle.map_model.specs.Tree.{Whole, Brush, numbers_from};
 ghost use Rattle.map_model.specs.Edits.{swap, draw, take_out, put_in, put_at, put_last, forget, each_in_turn, replace_by, put_after};
 ghost use Rattle.tree_node.specs.Held.{changed};
@@ -26,9 +27,10 @@ impl Change {
         self.set_parent_of(alloc, map, id, place)
     }
 
-    /// Takes a node out of the list that it stands in.
+    /// Takes a node out of the list that it stands in. After an error the change is as before.
     pub fn take_out(&mut self, alloc: Global, map: &Map, id: NodeId) -> Result<(), AllocError>
-        ensures { OnOk result (changed map.now self.new ≡ take_out id (changed map.now self.old)) }
+        ensures edit { OnOk result (changed map.now self.new ≡ take_out id (changed map.now self.old)) }
+        ensures err { OnErr result (self.new ≡ self.old) }
     {
         let brush = self.is_brush(map, id);
         match self.parent(map, id) {
@@ -37,7 +39,7 @@ impl Change {
         }
     }
 
-    /// Puts nodes in the place of one, in the list that it stands in.
+    /// Puts nodes in the place of one, in the list that it stands in. After an error the change is as before.
     pub fn put_at(
         &mut self,
         alloc: Global,
@@ -45,7 +47,8 @@ impl Change {
         id: NodeId,
         new: &[NodeId],
     ) -> Result<(), AllocError>
-        ensures { OnOk result (changed map.now self.new ≡ put_at id new.now (changed map.now self.old)) }
+        ensures edit { OnOk result (changed map.now self.new ≡ put_at id new.now (changed map.now self.old)) }
+        ensures err { OnErr result (self.new ≡ self.old) }
     {
         let brush = self.is_brush(map, id);
         match self.parent(map, id) {
@@ -64,16 +67,16 @@ impl Change {
         Ok(())
     }
 
-    /// Gives the next number to a node, which stands nowhere yet.
+    /// Gives the next number to a node, which stands nowhere yet. After an error the change is as before.
     pub fn draw_node(&mut self, node: Node) -> Result<NodeId, AllocError>
         requires { self.old.next < 65536 }
         ensures number { IfOk result (λ id. id ≡ self.old.next) }
         ensures next { OnOk result (self.new.next ≡ self.old.next + 1) }
         ensures drawn { OnOk result ((m : Whole) → swap m self.new ≡ draw node (swap m self.old)) }
+        ensures err { OnErr result (self.new ≡ self.old) }
     {
-        let id = self.draw();
-        self.put(id, Some(node))?;
-        Ok(id)
+        self.put(NodeId(self.next), Some(node))?;
+        Ok(self.draw())
     }
 
     /// A new node at the end of a place.

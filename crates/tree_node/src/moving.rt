@@ -1,4 +1,4 @@
-//! Edits of nodes with all beneath them.
+//! Edits of nodes with all beneath them. After an error the change may be partly filled; its owner then drops it.
 
 ghost use Rattle.std.specs.Prelude.{◌≡◌, OnOk};
 ghost use Rattle.map_model.specs.Edits.{delete, move_all};

@@ -1,6 +1,6 @@
-//! Changes of one node.
+//! Changes of one node. After an error each leaves the change as it was.
 
-ghost use Rattle.std.specs.Prelude.{◌≡◌, [], ◌∷◌, ◌++◌, OnOk};
+ghost use Rattle.std.specs.Prelude.{◌≡◌, [], ◌∷◌, ◌++◌, OnOk, OnErr};
 ghost use Rattle.map_model.specs.Tree.{with_parent, with_frozen, with_format, with_faces, with_props, props_of};
 ghost use Rattle.map_model.specs.Props.{set_value, without_key};
 ghost use Rattle.map_model.specs.Edits.{renew, relist, without, in_place};
@@ -22,7 +22,8 @@ impl Change {
         brush: bool,
         id: NodeId,
     ) -> Result<(), AllocError>
-        ensures { OnOk result (changed map.now self.new ≡ renew place (relist brush (λ l. l ++ id ∷ [])) (changed map.now self.old)) }
+        ensures edit { OnOk result (changed map.now self.new ≡ renew place (relist brush (λ l. l ++ id ∷ [])) (changed map.now self.old)) }
+        ensures err { OnErr result (self.new ≡ self.old) }
     {
         match self.copy_of(alloc, map, place)? {
             Some(mut above) => {
@@ -42,7 +43,8 @@ impl Change {
         brush: bool,
         id: NodeId,
     ) -> Result<(), AllocError>
-        ensures { OnOk result (changed map.now self.new ≡ renew place (relist brush (without id)) (changed map.now self.old)) }
+        ensures edit { OnOk result (changed map.now self.new ≡ renew place (relist brush (without id)) (changed map.now self.old)) }
+        ensures err { OnErr result (self.new ≡ self.old) }
     {
         match self.copy_of(alloc, map, place)? {
             Some(mut above) => {
@@ -63,7 +65,8 @@ impl Change {
         id: NodeId,
         new: &[NodeId],
     ) -> Result<(), AllocError>
-        ensures { OnOk result (changed map.now self.new ≡ renew place (relist brush (in_place id new.now)) (changed map.now self.old)) }
+        ensures edit { OnOk result (changed map.now self.new ≡ renew place (relist brush (in_place id new.now)) (changed map.now self.old)) }
+        ensures err { OnErr result (self.new ≡ self.old) }
     {
         match self.copy_of(alloc, map, place)? {
             Some(mut above) => {
@@ -82,7 +85,8 @@ impl Change {
         id: NodeId,
         place: NodeId,
     ) -> Result<(), AllocError>
-        ensures { OnOk result (changed map.now self.new ≡ renew id (with_parent place) (changed map.now self.old)) }
+        ensures edit { OnOk result (changed map.now self.new ≡ renew id (with_parent place) (changed map.now self.old)) }
+        ensures err { OnErr result (self.new ≡ self.old) }
     {
         match self.copy_of(alloc, map, id)? {
             Some(mut node) => {
@@ -102,7 +106,8 @@ impl Change {
         key: &[u8],
         value: &[u8],
     ) -> Result<(), AllocError>
-        ensures { OnOk result (changed map.now self.new ≡ renew id (λ x. with_props (set_value key.now value.now (props_of x)) x) (changed map.now self.old)) }
+        ensures edit { OnOk result (changed map.now self.new ≡ renew id (λ x. with_props (set_value key.now value.now (props_of x)) x) (changed map.now self.old)) }
+        ensures err { OnErr result (self.new ≡ self.old) }
     {
         match self.copy_of(alloc, map, id)? {
             Some(mut node) => {
@@ -121,7 +126,8 @@ impl Change {
         id: NodeId,
         props: Props,
     ) -> Result<(), AllocError>
-        ensures { OnOk result (changed map.now self.new ≡ renew id (with_props props) (changed map.now self.old)) }
+        ensures edit { OnOk result (changed map.now self.new ≡ renew id (with_props props) (changed map.now self.old)) }
+        ensures err { OnErr result (self.new ≡ self.old) }
     {
         match self.copy_of(alloc, map, id)? {
             Some(mut node) => {
@@ -140,7 +146,8 @@ impl Change {
         id: NodeId,
         key: &[u8],
     ) -> Result<(), AllocError>
-        ensures { OnOk result (changed map.now self.new ≡ renew id (λ x. with_props (without_key key.now (props_of x)) x) (changed map.now self.old)) }
+        ensures edit { OnOk result (changed map.now self.new ≡ renew id (λ x. with_props (without_key key.now (props_of x)) x) (changed map.now self.old)) }
+        ensures err { OnErr result (self.new ≡ self.old) }
     {
         match self.copy_of(alloc, map, id)? {
             Some(mut node) => {
@@ -159,7 +166,8 @@ impl Change {
         id: NodeId,
         frozen: bool,
     ) -> Result<(), AllocError>
-        ensures { OnOk result (changed map.now self.new ≡ renew id (with_frozen frozen) (changed map.now self.old)) }
+        ensures edit { OnOk result (changed map.now self.new ≡ renew id (with_frozen frozen) (changed map.now self.old)) }
+        ensures err { OnErr result (self.new ≡ self.old) }
     {
         match self.copy_of(alloc, map, id)? {
             Some(mut node) => {
@@ -178,7 +186,8 @@ impl Change {
         id: NodeId,
         format: Format,
     ) -> Result<(), AllocError>
-        ensures { OnOk result (changed map.now self.new ≡ renew id (with_format format) (changed map.now self.old)) }
+        ensures edit { OnOk result (changed map.now self.new ≡ renew id (with_format format) (changed map.now self.old)) }
+        ensures err { OnErr result (self.new ≡ self.old) }
     {
         match self.copy_of(alloc, map, id)? {
             Some(mut node) => {
@@ -197,7 +206,8 @@ impl Change {
         id: NodeId,
         body: Body,
     ) -> Result<(), AllocError>
-        ensures { OnOk result (changed map.now self.new ≡ renew id (with_faces body) (changed map.now self.old)) }
+        ensures edit { OnOk result (changed map.now self.new ≡ renew id (with_faces body) (changed map.now self.old)) }
+        ensures err { OnErr result (self.new ≡ self.old) }
     {
         match self.copy_of(alloc, map, id)? {
             Some(mut node) => {

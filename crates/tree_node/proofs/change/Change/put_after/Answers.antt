@@ -7,5 +7,5 @@ use Rattle.tree_node.proofs.change.Change.put_after.Goals as goal
 pub returns-clause-edit : goal.returns-clause-edit
 returns-clause-edit c =
     let w = whole c.args.map.now in
-    c.in_ok-put_at.ensures ∙ ap₂ (λ i x. put_at c.args.id (c.args.id ∷ i ∷ []) x) c.in_ok-made.ensures.number
+    c.in_ok-put_at.ensures.edit ∙ ap₂ (λ i x. put_at c.args.id (c.args.id ∷ i ∷ []) x) c.in_ok-made.ensures.number
     (c.in_ok-made.ensures.drawn w ∙ ap (λ p. draw (Brush p None c.args.body) (swap w c.args.self.now)) (c.unwrap_or-parent.ensures ∙ ap (λ o. unwrap_or o 0) c.parent.ensures))

@@ -1,4 +1,4 @@
-use Rattle.std.proofs.Common.{◌≡◌, length, map, ap, ap₂, sym, subst, ◌∙◌, arith}
+use Rattle.std.proofs.Common.{length, map, ap, ap₂, sym, subst, ◌∙◌, arith}
 use Rattle.std.proofs.lemmas.List.{length_push, length-map}
 use Rattle.std.proofs.lemmas.Iterator.Adapters.{YieldsList-from_vec}
 use Rattle.std.proofs.lemmas.Iterator.Consumers.{YieldsList-turn, YieldsList-end}
@@ -19,7 +19,7 @@ loop-node-preserved c =
     let lt = t.0 in
     subst (λ n. Drawing (map change nodes) n old c.draw_node.new.self) (sym (length_push c.loop-node.yielded c.in-Some.node))
     (drawn_one (map change nodes) k old c.loop-node.self c.draw_node.new.self (change c.in-Some.node) (omega (arith, lt, length-map nodes change)) c.loop-node.invariant c.in_ok-draw_node.ensures.next
-    (λ m. c.in_ok-draw_node.ensures.drawn m ∙ ap (λ x. draw x (swap m c.loop-node.self)) (c.in_ok-renumber.ensures ∙ item_of_map change nodes k c.in-Some.node t.1)))
+    (λ m. c.in_ok-draw_node.ensures.drawn m ∙ ap (λ x. draw x (swap m c.loop-node.self)) (c.in_ok-renumber.ensures.ok ∙ item_of_map change nodes k c.in-Some.node t.1)))
 
 pub returns : goal.returns
 returns c =

@@ -8,5 +8,5 @@ pub returns : goal.returns
 returns c =
     let w = whole c.args.map.now in
     c.in_ok-forget.ensures w
-    ∙ ap (λ x. set x c.args.id None) (c.in_ok-put_at.ensures ∙ ap₂ (put_at c.args.id) (c.deref.ensures.value ∙ c.in_ok-made.ensures.ids)
+    ∙ ap (λ x. set x c.args.id None) (c.in_ok-put_at.ensures.edit ∙ ap₂ (put_at c.args.id) (c.deref.ensures.value ∙ c.in_ok-made.ensures.ids)
     (c.in_ok-made.ensures.drawn w ∙ ap (λ p. each_in_turn draw (map (Brush p None) c.args.bodies.items) (swap w c.args.self.now)) (c.unwrap_or-place.ensures ∙ ap (λ o. unwrap_or o 0) c.parent.ensures)))

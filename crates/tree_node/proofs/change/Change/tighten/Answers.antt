@@ -1,4 +1,4 @@
-use Rattle.std.proofs.Common.{ap, subst, sym, ◌∙◌}
+use Rattle.std.proofs.Common.{ap, ◌∙◌}
 use Rattle.map_model.specs.Tree.{whole}
 use Rattle.map_model.specs.Edits.{swap}
 use Rattle.tree_node.proofs.Tightening.{tightened, tightened_same}

@@ -5,5 +5,5 @@ use Rattle.map_model.specs.Edits.{swap}
 use Rattle.tree_node.proofs.Changes.{renew-absent}
 use Rattle.tree_node.proofs.change.Change.unset_value.Goals as goal
 
-pub returns-in-None : goal.returns-in-None
-returns-in-None c = renew-absent (swap (whole c.args.map.now) c.args.self.now) c.args.id (λ x. with_props (without_key c.args.key.now (props_of x)) x) (sym c.in_ok-node.ensures ∙ c.in-None.is)
+pub returns-in-None-clause-edit : goal.returns-in-None-clause-edit
+returns-in-None-clause-edit c = renew-absent (swap (whole c.args.map.now) c.args.self.now) c.args.id (λ x. with_props (without_key c.args.key.now (props_of x)) x) (sym c.in_ok-node.ensures ∙ c.in-None.is)
