@@ -1,1 +1,2 @@
 mod Tagged
+mod AllOf

@@ -2,7 +2,7 @@ use Rattle.std.proofs.Common.{rules, tests}
 use Rattle.std.specs.Prelude.{IsTrue}
 use Rattle.std.proofs.lemmas.Iterator.{cases_from_all, YieldsList-from_slice}
 use Rattle.exact_geom.specs.Planes.{is_in_range}
-use Rattle.vertex_search.proofs.Lists.{all_of_cases, every_of_all, all_of_every}
+use Rattle.part_rows.proofs.AllOf.{all_of_cases, every_of_all, all_of_every}
 use Rattle.part_rows.proofs.hulls.are_in_range.Goals as goal
 
 pub returns : goal.returns

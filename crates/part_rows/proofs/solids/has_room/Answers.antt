@@ -1,6 +1,6 @@
 use Rattle.std.proofs.Common.{◌+◌, ◌^◌, ◌<◌, rules, tests}
 use Rattle.std.proofs.lemmas.Iterator.{cases_from_all, YieldsList-from_slice}
-use Rattle.vertex_search.proofs.Lists.{all_of_cases, every_of_all, all_of_every}
+use Rattle.part_rows.proofs.AllOf.{all_of_cases, every_of_all, all_of_every}
 use Rattle.part_rows.proofs.solids.has_room.Goals as goal
 
 pub returns : goal.returns

@@ -1,5 +1,5 @@
 -- What a search through the triples of faces has found on its way.
-use Rattle.std.specs.Prelude.{ℕ, ◌+◌, ◌*◌, ◌<◌, ◌≤◌, List, length}
+use Rattle.std.proofs.Common.{ℕ, ◌+◌, ◌*◌, ◌<◌, ◌≤◌, List, length}
 use Rattle.algebra.specs.Members.{◌∈◌}
 use Rattle.algebra.specs.Space.{Homogeneous, HalfSpace}
 use Rattle.exact_geom.specs.Vertices.{IsReduced}

@@ -10,8 +10,8 @@ use Rattle.algebra.proofs.Points.{same_of_three}
 use Rattle.trim_laws.specs.Solid.{IsIn}
 use Rattle.vertex_laws.specs.Vertex.{IsVertex}
 use Rattle.solid_laws.specs.Names.{Triple, Earlier, MeetAt}
-use Rattle.vertex_search.specs.Found.{triple, IsRising}
-use Rattle.vertex_search.proofs.Lists.{member_of_place, place_of}
+use Rattle.map_model.proofs.TriplesTried.{triple, IsRising}
+use Rattle.map_model.proofs.Places.{member_of_place, place_of}
 
 -- ---- the order
 earlier_trans : (r s t : Triple) → Earlier r s → Earlier s t → Earlier r t

@@ -11,9 +11,9 @@ use Rattle.exact_geom.specs.Vertices.{IsReduced, IsVertexOf}
 use Rattle.trim_laws.specs.Solid.{IsIn}
 use Rattle.vertex_laws.specs.Vertex.{IsVertex}
 use Rattle.solid_laws.specs.Names.{Triple, Earlier, MeetAt, IsName, NamedBefore, NamesRise, no_points, one_more_point, AreVertices}
-use Rattle.vertex_search.specs.Found.{triple, IsRising, NamedEarlier, FoundBefore}
-use Rattle.vertex_search.proofs.Lists.{each_of_push, member_push, member_last, place_mapped}
-use Rattle.vertex_search.proofs.Names.{same_face, sorted, one_point, vertex_of_meet, met}
+use Rattle.map_model.proofs.TriplesTried.{triple, IsRising, NamedEarlier, FoundBefore}
+use Rattle.map_model.proofs.Places.{each_of_push, member_push, member_last, place_mapped}
+use Rattle.map_model.proofs.TripleNames.{same_face, sorted, one_point, vertex_of_meet, met}
 use Rattle.exact_geom.proofs.Unique.{one_form}
 
 -- ---- before the first triple
@@ -69,13 +69,13 @@ next_first F i j V n few b = moved F (triple i j 0) (triple (i + 1) 0 0) V b
     (λ s r w e. let l = r.low in let h = r.high in let x = w.second in grind arith) (λ s e. grind arith) (omega arith)
 
 -- ---- one triple more
-latest : (i j k : ℕ) (s : Triple) → Earlier s (triple i j (k + 1)) → Earlier s (triple i j k) ⊎ ((s.first ≡ i) × (s.second ≡ j) × (s.third ≡ k))
+pub latest : (i j k : ℕ) (s : Triple) → Earlier s (triple i j (k + 1)) → Earlier s (triple i j k) ⊎ ((s.first ≡ i) × (s.second ≡ j) × (s.third ≡ k))
 latest i j k s e = grind arith
 
-later : (i j k : ℕ) (s : Triple) → Earlier s (triple i j k) → Earlier s (triple i j (k + 1))
+pub later : (i j k : ℕ) (s : Triple) → Earlier s (triple i j k) → Earlier s (triple i j (k + 1))
 later i j k s e = grind arith
 
-at_triple : (F : List HalfSpace) (i j k : ℕ) (s : Triple) (v : Homogeneous) → (s.first ≡ i) × (s.second ≡ j) × (s.third ≡ k) →
+pub at_triple : (F : List HalfSpace) (i j k : ℕ) (s : Triple) (v : Homogeneous) → (s.first ≡ i) × (s.second ≡ j) × (s.third ≡ k) →
     MeetAt F s v → MeetAt F (triple i j k) v
 at_triple F i j k s v e m = record {
   f = m.f;

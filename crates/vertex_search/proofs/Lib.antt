@@ -1,5 +1,0 @@
-pub mod Deciding
-pub mod Finding
-pub mod Lists
-pub mod Names
-pub mod Reduced
