@@ -5,21 +5,12 @@ pub use Rattle.uv_lock.specs.declared.texture.ValveTex.{ValveTex}
 pub use Rattle.uv_lock.specs.declared.texture.Tex.{Tex}
 pub use Rattle.uv_lock.specs.declared.texture.Tex.TheVariants.{Standard as StandardFields, Valve as ValveFields}
 pub use Rattle.uv_lock.specs.SurfaceNumbers.{SurfaceNumbers as Surface}
+pub use Rattle.uv_lock.specs.Units.{axis_unit, offset_unit, degree_unit}
 pub use Rattle.fixed_num.specs.Decimals.{axis_decimals, offset_decimals, rotation_decimals as degree_decimals}
-use Rattle.std.specs.Prelude.{ℕ, ◌^◌, Bool, ◌&&◌, List, [], ◌∷◌, Option, None, Some, ℤ}
+use Rattle.std.specs.Prelude.{Bool, ◌&&◌, List, [], ◌∷◌, Option, None, Some, ℤ}
 use Rattle.std.specs.Ordering.{int_eq}
 use Rattle.uv_lock.specs.declared.texture.Format.{Format}
 use Rattle.uv_lock.specs.declared.texture.Format.TheVariants.{Standard, Valve}
-
--- The count of one.
-abbrev pub axis_unit : ℕ
-axis_unit = 10 ^ axis_decimals
-
-abbrev pub offset_unit : ℕ
-offset_unit = 10 ^ offset_decimals
-
-abbrev pub degree_unit : ℕ
-degree_unit = 10 ^ degree_decimals
 
 abbrev pub format_of_tex : Tex → Format
 format_of_tex (StandardFields t) = Standard

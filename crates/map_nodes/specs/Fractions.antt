@@ -1,32 +1,9 @@
--- Fractions in lowest terms.
-use Rattle.std.specs.Prelude.{ℕ, zero, suc, ◌%◌, cond, ℤ, pos, neg_ℤ, unsigned_abs, int_div, int_lt}
+-- Fractions in lowest terms, whatever their parts are.
+pub use Rattle.uv_lock.specs.Fractions.{Fraction, gcd_by, gcd, fraction, fraction_of}
+use Rattle.std.specs.Prelude.{cond, ℤ, pos}
 use Rattle.std.specs.Ordering.{int_eq}
-use Rattle.fixed_num.specs.declared.fraction.Frac.{Frac}
 
-pub record Fraction : Type 0 where
-  pub num : ℤ
-  pub den : ℤ
-
-abbrev pub gcd_by : ℕ → ℕ → ℕ → ℕ
-gcd_by zero a b = a
-gcd_by (suc k) a zero = a
-gcd_by (suc k) a (suc b) = gcd_by k (suc b) (a % suc b)
-
--- The greatest common divisor. So many steps are enough.
-abbrev pub gcd : ℕ → ℕ → ℕ
-gcd a b = gcd_by (suc b) a b
-
--- n / d in lowest terms, with a denominator of at least 1, where d isn't 0.
-abbrev pub fraction : ℤ → ℤ → Fraction
-fraction n d =
-    let g = pos (gcd (unsigned_abs n) (unsigned_abs d)) in
-    record { num = int_div (cond (int_lt d (pos 0)) (neg_ℤ n) n) g; den = int_div (pos (unsigned_abs d)) g }
-
--- The fraction that is kept.
-abbrev pub fraction_of : Frac → Fraction
-fraction_of f = record { num = f.num; den = f.den }
-
--- The same where d is 0 too: it counts as 1.
+-- As `fraction`, and a denominator of 0 counts as 1.
 abbrev pub not_zero : ℤ → ℤ
 not_zero d = cond (int_eq d (pos 0)) (pos 1) d
 
