@@ -1,0 +1,5 @@
+pub mod Placed
+pub mod Walking
+pub mod Editing
+pub mod Unlinked
+pub mod TreeCommands
