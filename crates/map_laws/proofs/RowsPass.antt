@@ -3,7 +3,8 @@ use Rattle.std.proofs.Common.{◌≡◌, List, [], ◌∷◌, Option, None}
 use Rattle.algebra.specs.Members.{◌∈◌, here, there}
 use Rattle.map_model.specs.Tree.{Whole}
 use Rattle.map_model.specs.Below.{Below}
-use Rattle.map_model.specs.Commands.{Command, Settings, Refusal}
+use Rattle.map_model.specs.Commands.{Command, Settings}
+use Rattle.map_model.specs.Replies.{Refusal}
 use Rattle.map_model.specs.Rows.{rows, first, reserved_key, point_range, no_volume, out_of_world, lock_offset, stuck_origin}
 use Rattle.map_laws.proofs.Refused.{first_none}
 

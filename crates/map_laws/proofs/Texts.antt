@@ -1,13 +1,19 @@
 -- Texts that are one token where they are saved: those that a line gives, and the numbers of an origin.
-use Rattle.std.proofs.Common.{◌≡◌, ◌≢◌, ℕ, ◌+◌, ◌<◌, ◌≤◌, List, [], ◌∷◌, ◌++◌, Bool, true, false, not, ◌==◌, ◌&&◌, ◌||◌, inl, inr, refl, ap, ◌∙◌, arith, eqb-true}
+use Rattle.std.proofs.Common.{◌≡◌, ◌≢◌, ℕ, ◌+◌, ◌<◌, ◌≤◌, List, [], ◌∷◌, ◌++◌, length, Bool, true, false, not, ◌==◌, ◌&&◌, ◌||◌, inl, inr, refl, ap, sym, subst, ◌∙◌, arith, eqb-true}
 use Rattle.std.specs.Prelude.{ℤ, pos, negsuc, suc, nat_lt, unsigned_abs, ◌%◌, ◌^◌}
-use Rattle.std.specs.List.{list_all, join_with_byte}
+use Rattle.std.specs.List.{list_all, list_any, join_with_byte}
 use Rattle.std.specs.Fmt.{decimal, signed_decimal}
-use Rattle.std.proofs.lemmas.Bool.{and_parts, and_from, or_cases, ne_eqb, ltb-true, lt-ltb, le-ltb}
+use Rattle.std.proofs.lemmas.Bool.{and_parts, and_from, or_cases, or_parts, ne_eqb, eq-eqb, ltb-true, ltb-false, lt-ltb, le-ltb}
 use Rattle.std.proofs.lemmas.Fmt.{decimal_by_steps}
 use Rattle.std.proofs.lemmas.List.Folds.{list_all-append}
 use Rattle.map_lex.specs.Bytes.{is_blank, is_stray}
-use Rattle.map_lex.specs.OneToken.{quotes_are_escaped, is_value_text}
+use Rattle.map_lex.specs.OneToken.{quotes_are_escaped, is_value_text, is_key_text, ends_with_backslash}
+use Rattle.cmd_text.specs.Cut.{is_quote, is_stray as is_line_stray}
+use Rattle.cmd_text.specs.Kept.{IsPoint, IsText, IsNameText}
+use Rattle.cmd_text.specs.Spelling.{is_name}
+use Rattle.map_model.specs.Commands.{point_in}
+use Rattle.map_model.specs.Own.{point_text}
+use Rattle.map_laws.proofs.Slots.{by_bool}
 
 -- A byte that may stand anywhere in a value: no quote, no line feed, and none that is stray.
 pub record Fair (b : ℕ) : Type 0 where
@@ -63,8 +69,48 @@ calm_signed : (z : ℤ) → unsigned_abs z ≤ 4352 → list_all is_calm (signed
 calm_signed (pos n) h = calm_decimal n (omega arith)
 calm_signed (negsuc n) h = and_from true (list_all is_calm (decimal (suc n))) refl (calm_decimal (suc n) (omega arith))
 
+-- The texts of a line.
+no_clash : (b : Bool) → b ≡ true → not b ≡ true → ⊥
+no_clash b e f = cc
+
+abbrev is_plain : ℕ → Bool
+is_plain b = not (is_quote b) && not (is_line_stray b)
+
+plain_fair : (b : ℕ) → is_plain b ≡ true → Fair b
+plain_fair b e =
+    let k = and_parts (not (is_quote b)) (not (is_line_stray b)) e in
+    by_bool (nat_lt b 32)
+    (λ low. tab b (λ t. no_clash (is_line_stray b) (and_from (nat_lt b 32) (not (b == 9)) low t) k.1))
+    (λ high. fair_from b (λ s. no_clash (is_quote b) (eq-eqb b 34 s) k.0) (ltb-false b 32 high))
+  where
+    tab : (b : ℕ) → (not (b == 9) ≡ true → ⊥) → Fair b
+    tab b h = by_bool (b == 9) (λ e. subst Fair (sym (eqb-true b 9 e)) (record { no_quote = refl; fine = refl })) (λ e. absurd (h (ap not e)))
+
+all_plain : (text : List ℕ) → list_all (λ b. not (is_quote b)) text ≡ true → list_any is_line_stray text ≡ false → list_all is_plain text ≡ true
+all_plain [] e f = refl
+all_plain (b ∷ text) e f =
+    let k = and_parts (not (is_quote b)) (list_all (λ b. not (is_quote b)) text) e in
+    let l = or_parts (is_line_stray b) (list_any is_line_stray text) f in
+    and_from (is_plain b) (list_all is_plain text) (and_from (not (is_quote b)) (not (is_line_stray b)) k.0 (ap not l.0)) (all_plain text k.1 l.1)
+
+pub text_value : (text : List ℕ) → IsText text → is_value_text text ≡ true
+text_value text h = fair_value is_plain plain_fair text (all_plain text h.no_quote h.no_stray)
+
+pub name_value : (name : List ℕ) → IsNameText name → is_value_text name ≡ true
+name_value name h = text_value name h.is_text
+
+pub name_key : (name : List ℕ) → IsNameText name → is_key_text name ≡ true
+unfolding is_name
+name_key name h = and_from (is_value_text name) (not (ends_with_backslash name)) (name_value name h) (and_parts (nat_lt 0 (length name)) (not (ends_with_backslash name)) h.name).1
+
 -- Three coordinates, with a blank between two.
-pub point_value : (x y z : ℤ) → unsigned_abs x ≤ 4352 → unsigned_abs y ≤ 4352 → unsigned_abs z ≤ 4352 → is_value_text (join_with_byte 32 (signed_decimal x ∷ signed_decimal y ∷ signed_decimal z ∷ [])) ≡ true
+point_value : (x y z : ℤ) → unsigned_abs x ≤ 4352 → unsigned_abs y ≤ 4352 → unsigned_abs z ≤ 4352 → is_value_text (join_with_byte 32 (signed_decimal x ∷ signed_decimal y ∷ signed_decimal z ∷ [])) ≡ true
 point_value x y z hx hy hz =
     fair_value is_calm calm_fair (join_with_byte 32 (signed_decimal x ∷ signed_decimal y ∷ signed_decimal z ∷ []))
     (calm_all (signed_decimal x) _ (calm_signed x hx) (and_from true _ refl (calm_all (signed_decimal y) _ (calm_signed y hy) (and_from true _ refl (calm_signed z hz)))))
+
+pub place_value : (at : List ℤ) → IsPoint at → is_value_text (point_text (point_in at)) ≡ true
+place_value [] h = point_value (pos 0) (pos 0) (pos 0) (omega arith) (omega arith) (omega arith)
+place_value (x ∷ []) h = point_value x (pos 0) (pos 0) h.0 (omega arith) (omega arith)
+place_value (x ∷ y ∷ []) h = point_value x y (pos 0) h.0 h.1.0 (omega arith)
+place_value (x ∷ y ∷ z ∷ more) h = point_value x y z h.0 h.1.0 h.1.1.0

@@ -11,13 +11,14 @@ use Rattle.map_model.specs.Edits.{renew, put_last}
 use Rattle.map_model.specs.Shape.{Shape, NodeOk}
 use Rattle.map_model.specs.Below.{Below}
 use Rattle.map_model.specs.Props.{set_value, without_key, is_file_key, classname, origin}
-use Rattle.map_model.specs.Commands.{Command, Settings, ReservedKey, Delete, Entity, Set, Unset, Tie, Untie, Layer, Freeze, Thaw, Group, Ungroup, Into}
+use Rattle.map_model.specs.Commands.{Command, IsGood, point_in, Settings, Delete, Entity, Set, Unset, Tie, Untie, Layer, Freeze, Thaw, Group, Ungroup, Into}
+use Rattle.map_model.specs.Replies.{ReservedKey}
 use Rattle.map_model.specs.Rows.{rows, first, edits, has_props}
 use Rattle.map_model.specs.Own.{own, point_text}
 use Rattle.map_model.specs.Apply.{prune}
 use Rattle.map_laws.specs.Placed.{Placed, Bounded, KeepsAll, NewOk, can_hold}
 use Rattle.map_laws.specs.Unlinked.{Unlinked}
-use Rattle.map_laws.specs.TreeCommands.{is_tree_command, WordsOk, UnlinkedApplyLaw, UnlinkedRowsLaw, TreeCommandLaw}
+use Rattle.map_laws.specs.TreeCommands.{is_tree_command, UnlinkedApplyLaw, UnlinkedRowsLaw, TreeCommandLaw}
 use Rattle.map_laws.proofs.Forest.{PutNew, brush_kind, not_none}
 use Rattle.map_laws.proofs.Lists.{by_eq}
 use Rattle.map_laws.proofs.Skeleton.{kind_at, forest, planted, placed_of, is_kind_by}
@@ -34,7 +35,7 @@ use Rattle.map_laws.proofs.Gathering.{group_pruned, tie_pruned}
 use Rattle.map_laws.proofs.Renewing.{renew_alike, renew_shape, same_children, same_linked}
 use Rattle.map_laws.proofs.Properties.{node_put, node_without}
 use Rattle.map_laws.proofs.Parts.{keeps_props, keeps_frozen, frozen_ok}
-use Rattle.map_laws.proofs.Texts.{point_value}
+use Rattle.map_laws.proofs.Texts.{text_value, name_value, name_key, place_value}
 use Rattle.map_laws.proofs.RowsPass.{rows_pass}
 use Rattle.map_laws.proofs.Unlinking.{Outcome, EndsPlainly, outcome_of, outcome_same, apply_is, accepted_shape}
 use Rattle.map_laws.proofs.TreeRows.{rows_are}
@@ -123,13 +124,13 @@ new_point_entity f class place q r = record {
 }
 
 -- set and unset.
-key_set : (b : Below) (s : Settings) (m : Whole) (n : ℕ) (key value : List ℕ) → WordsOk (Set n key value) → Shape m → Unlinked m → first (rows b s m (Set n key value)) ≡ None →
+key_set : (b : Below) (s : Settings) (m : Whole) (n : ℕ) (key value : List ℕ) → IsGood (Set n key value) → Shape m → Unlinked m → first (rows b s m (Set n key value)) ≡ None →
     Outcome m (Set n key value) (renew n (λ x. with_props (set_value key value (props_of x)) x) m)
 key_set b s m n key value words shape u none =
     let k = test_kind has_props m n ((nodes_fit b s m (Set n key value) none).fit n here) in
     let row = or_parts (is_file_key key) ((n == 0) && bytes_eq key classname) (refuse_none (is_file_key key || ((n == 0) && bytes_eq key classname)) (ReservedKey n) (rows_pass b s m (Set n key value) none).key) in
     renewed m (Set n key value) n (λ x. with_props (set_value key value (props_of x)) x) (keeps_props (λ x. set_value key value (props_of x))) shape u
-    (λ x is. node_put (format_of m) key value x (shape.each_node n x is) words.0 words.1 row.0
+    (λ x is. node_put (format_of m) key value x (shape.each_node n x is) (name_key key words.texts.0) (text_value value words.texts.1) row.0
     (λ w. sym (ap (λ b. b && bytes_eq key classname) (eq-eqb n 0 (shape.standing.one_world n (is_kind_by m world n (ap (option_map kind_of) is ∙ ap Some w))))) ∙ row.1)
     (elim (world_or_entity k.0 k.2) [ inl w ↦ inl (kind_by_slot m n x k.0 is k.1 ∙ w) | inr w ↦ inr (kind_by_slot m n x k.0 is k.1 ∙ w) ]))
 
@@ -146,28 +147,28 @@ freezes : (m : Whole) (c : Command) (n : ℕ) (frozen : Bool) → Shape m → Un
 freezes m c n frozen shape u = renewed m c n (with_frozen frozen) (keeps_frozen frozen) shape u (λ x is. frozen_ok (format_of m) frozen x (shape.each_node n x is))
 
 -- What comes of each command.
-outcome : (b : Below) (s : Settings) (m : Whole) (c : Command) → is_tree_command c ≡ true → WordsOk c → Shape m → Unlinked m → first (rows b s m c) ≡ None → Outcome m c (own b s m c)
+outcome : (b : Below) (s : Settings) (m : Whole) (c : Command) → is_tree_command c ≡ true → IsGood c → Shape m → Unlinked m → first (rows b s m c) ≡ None → Outcome m c (own b s m c)
 outcome b s m (Delete ns) is words shape u e =
     outcome_of m (Delete ns) (own b s m (Delete ns)) shape u (delete_pruned (format_of m) m ns shape.standing shape.numbers.nodes (nodes_fit b s m (Delete ns) e))
 outcome b s m (Entity class point) is words shape u e =
-    put_in_world m (Entity class point) (EntityNode 0 None ((classname, class) ∷ (origin, point_text point) ∷ []) [] []) shape u refl refl refl refl (λ e. cc)
-    (new_point_entity (format_of m) class (point_text point) words.0 (point_value point.x point.y point.z words.1 words.2 words.3))
+    put_in_world m (Entity class point) (EntityNode 0 None ((classname, class) ∷ (origin, point_text (point_in point)) ∷ []) [] []) shape u refl refl refl refl (λ e. cc)
+    (new_point_entity (format_of m) class (point_text (point_in point)) (name_value class words.texts) (place_value point words.ranges))
 outcome b s m (Set n key value) is words shape u e = key_set b s m n key value words shape u e
 outcome b s m (Unset n key) is words shape u e = key_unset b s m n key shape u e
-outcome b s m (Tie class []) is words shape u e = absurd (words.1 refl)
+outcome b s m (Tie class []) is words shape u e = absurd (omega (arith, words.counts))
 outcome b s m (Tie class (n ∷ ns)) is words shape u e =
     outcome_of m (Tie class (n ∷ ns)) (own b s m (Tie class (n ∷ ns))) shape u
-    (tie_pruned (format_of m) m class n ns shape.standing shape.numbers.nodes (nodes_fit b s m (Tie class (n ∷ ns)) e) (new_entity (format_of m) class words.0))
+    (tie_pruned (format_of m) m class n ns shape.standing shape.numbers.nodes (nodes_fit b s m (Tie class (n ∷ ns)) e) (new_entity (format_of m) class (name_value class words.texts)))
 outcome b s m (Untie ns) is words shape u e =
     outcome_of m (Untie ns) (own b s m (Untie ns)) shape u (untie_pruned (format_of m) m ns shape.standing shape.numbers.nodes (nodes_fit b s m (Untie ns) e))
 outcome b s m (Layer name) is words shape u e =
-    put_in_world m (Layer name) (LayerNode name false [] [] []) shape u refl refl refl refl (λ e. cc) (new_layer (format_of m) name words)
+    put_in_world m (Layer name) (LayerNode name false [] [] []) shape u refl refl refl refl (λ e. cc) (new_layer (format_of m) name (name_value name words.texts))
 outcome b s m (Freeze n) is words shape u e = freezes m (Freeze n) n true shape u
 outcome b s m (Thaw n) is words shape u e = freezes m (Thaw n) n false shape u
-outcome b s m (Group name []) is words shape u e = absurd (words.1 refl)
+outcome b s m (Group name []) is words shape u e = absurd (omega (arith, words.counts))
 outcome b s m (Group name (n ∷ ns)) is words shape u e =
     outcome_of m (Group name (n ∷ ns)) (own b s m (Group name (n ∷ ns))) shape u
-    (group_pruned (format_of m) m name n ns shape.standing shape.numbers.nodes (nodes_fit b s m (Group name (n ∷ ns)) e) (new_group (format_of m) name words.0))
+    (group_pruned (format_of m) m name n ns shape.standing shape.numbers.nodes (nodes_fit b s m (Group name (n ∷ ns)) e) (new_group (format_of m) name (name_value name words.texts)))
 outcome b s m (Ungroup ns) is words shape u e =
     outcome_of m (Ungroup ns) (own b s m (Ungroup ns)) shape u (ungroup_pruned (format_of m) m ns shape.standing shape.numbers.nodes (nodes_fit b s m (Ungroup ns) e))
 outcome b s m (Into place ns) is words shape u e =

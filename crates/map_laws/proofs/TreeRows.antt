@@ -3,7 +3,8 @@ use Rattle.std.proofs.Common.{◌≡◌, ℕ, List, [], ◌∷◌, ◌++◌, fla
 use Rattle.std.specs.Prelude.{is_some, option_to_list}
 use Rattle.map_model.specs.Tree.{Whole, is_linked, over, container}
 use Rattle.map_model.specs.Below.{Below}
-use Rattle.map_model.specs.Commands.{Command, Settings, Refusal, NestedLink, Delete, Entity, Set, Unset, Tie, Untie, Layer, Freeze, Thaw, Group, Ungroup, Into}
+use Rattle.map_model.specs.Commands.{Command, Settings, Delete, Entity, Set, Unset, Tie, Untie, Layer, Freeze, Thaw, Group, Ungroup, Into}
+use Rattle.map_model.specs.Replies.{Refusal, NestedLink}
 use Rattle.map_model.specs.Rows.{refuse, first, at_each, named, first_of, edits, is_in_link, holds_link, rows, no_node, repeated, wrong_kind, nested_ids, locked_layer, two_members, two_members_from, reserved_key, no_key, not_linked, nested_link, rotation, flat_plane, plane_misses, apart, not_box, thick, no_vertex, fractional_vertex, too_many_points, point_range, no_volume, too_many_faces, out_of_world, lock_offset, stuck_origin, shift_range}
 use Rattle.map_laws.specs.Unlinked.{Unlinked, tree_rows}
 use Rattle.map_laws.specs.TreeCommands.{is_tree_command}

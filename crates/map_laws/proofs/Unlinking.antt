@@ -8,7 +8,8 @@ use Rattle.map_model.specs.Tree.{Whole, Node, World, Layer, Group, Entity, Brush
 use Rattle.map_model.specs.Edits.{each_in_turn, renew}
 use Rattle.map_model.specs.Shape.{Shape, Marks}
 use Rattle.map_model.specs.Below.{Below}
-use Rattle.map_model.specs.Commands.{Command, Settings, Refusal, Full, EmptyLink}
+use Rattle.map_model.specs.Commands.{Command, Settings}
+use Rattle.map_model.specs.Replies.{Refusal, Full, EmptyLink}
 use Rattle.map_model.specs.Rows.{refuse, first, at_each, named, rows}
 use Rattle.map_model.specs.Links.{spread_all}
 use Rattle.map_model.specs.Own.{own}

@@ -1,10 +1,9 @@
 -- The commands that change the tree and its texts, in maps in which no group is linked.
-use Rattle.std.specs.Prelude.{◌≡◌, ◌≢◌, ◌≤◌, unsigned_abs, Bool, true, false, IsTrue, [], Ok}
-use Rattle.map_lex.specs.OneToken.{is_value_text, is_key_text}
+use Rattle.std.specs.Prelude.{◌≡◌, Bool, true, false, IsTrue, Ok}
 use Rattle.map_model.specs.Tree.{Whole}
 use Rattle.map_model.specs.Shape.{Shape}
 use Rattle.map_model.specs.Below.{Below}
-use Rattle.map_model.specs.Commands.{Command, Settings, Delete, Entity, Set, Unset, Tie, Untie, Layer, Freeze, Thaw, Group, Ungroup, Into}
+use Rattle.map_model.specs.Commands.{Command, IsGood, Settings, Delete, Entity, Set, Unset, Tie, Untie, Layer, Freeze, Thaw, Group, Ungroup, Into}
 use Rattle.map_model.specs.Rows.{rows, first}
 use Rattle.map_model.specs.Apply.{Applied, apply}
 use Rattle.map_laws.specs.Unlinked.{Unlinked, apply_unlinked, tree_rows}
@@ -24,18 +23,9 @@ is_tree_command (Ungroup ns) = true
 is_tree_command (Into place ns) = true
 is_tree_command c = false
 
--- Texts that a line gives are one token where they are saved, and a line that gathers nodes names at least one.
-abbrev pub WordsOk : Command → Type 0
-WordsOk (Entity class point) = IsTrue (is_value_text class) × (unsigned_abs point.x ≤ 4352) × (unsigned_abs point.y ≤ 4352) × (unsigned_abs point.z ≤ 4352)
-WordsOk (Set n key value) = IsTrue (is_key_text key) × IsTrue (is_value_text value)
-WordsOk (Tie class ns) = IsTrue (is_value_text class) × (ns ≢ [])
-WordsOk (Layer name) = IsTrue (is_value_text name)
-WordsOk (Group name ns) = IsTrue (is_value_text name) × (ns ≢ [])
-WordsOk c = Unit {0}
-
 -- Marks, edited groups and spreading change nothing.
 abbrev pub UnlinkedApplyLaw : Type 0
-UnlinkedApplyLaw = (b : Below) (s : Settings) (m : Whole) (c : Command) → IsTrue (is_tree_command c) → WordsOk c → Shape m → Unlinked m → apply b s m c ≡ apply_unlinked b s m c
+UnlinkedApplyLaw = (b : Below) (s : Settings) (m : Whole) (c : Command) → IsTrue (is_tree_command c) → IsGood c → Shape m → Unlinked m → apply b s m c ≡ apply_unlinked b s m c
 
 -- No other row holds.
 abbrev pub UnlinkedRowsLaw : Type 0
@@ -43,5 +33,5 @@ UnlinkedRowsLaw = (b : Below) (s : Settings) (m : Whole) (c : Command) → IsTru
 
 -- The map after a command has the shape again, and no linked group.
 abbrev pub TreeCommandLaw : Type 0
-TreeCommandLaw = (b : Below) (s : Settings) (m : Whole) (c : Command) (a : Applied) → IsTrue (is_tree_command c) → WordsOk c → Shape m → Unlinked m → apply b s m c ≡ Ok a →
+TreeCommandLaw = (b : Below) (s : Settings) (m : Whole) (c : Command) (a : Applied) → IsTrue (is_tree_command c) → IsGood c → Shape m → Unlinked m → apply b s m c ≡ Ok a →
     Shape a.map × Unlinked a.map

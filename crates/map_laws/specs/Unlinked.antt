@@ -2,7 +2,8 @@
 use Rattle.std.specs.Prelude.{◌≡◌, ◌-◌, ℕ, false, List, [], ◌∷◌, Option, Result, Ok}
 use Rattle.map_model.specs.Tree.{Whole, is_linked}
 use Rattle.map_model.specs.Below.{Below}
-use Rattle.map_model.specs.Commands.{Command, Settings, Refusal}
+use Rattle.map_model.specs.Commands.{Command, Settings}
+use Rattle.map_model.specs.Replies.{Refusal}
 use Rattle.map_model.specs.Rows.{rows, first, no_node, repeated, wrong_kind, nested_ids, locked_layer, reserved_key, no_key}
 use Rattle.map_model.specs.Own.{own}
 use Rattle.map_model.specs.Apply.{Applied, prune, full, unless, reply_of}
