@@ -25,8 +25,15 @@ pub mod Untying
 pub mod Gathering
 pub mod Texts
 pub mod Properties
+pub mod MovedFaces
+pub mod MovedNodes
 pub mod Parts
 pub mod RowsPass
 pub mod Unlinking
 pub mod TreeRows
+pub mod NewNodes
 pub mod TreeCommands
+pub mod Boxes
+pub mod MovedMaps
+pub mod MovingCommands
+pub mod BoxCommand

@@ -1,18 +1,22 @@
 -- Texts that are one token where they are saved: those that a line gives, and the numbers of an origin.
 use Rattle.std.proofs.Common.{◌≡◌, ◌≢◌, ℕ, ◌+◌, ◌<◌, ◌≤◌, List, [], ◌∷◌, ◌++◌, length, Bool, true, false, not, ◌==◌, ◌&&◌, ◌||◌, inl, inr, refl, ap, sym, subst, ◌∙◌, arith, eqb-true}
-use Rattle.std.specs.Prelude.{ℤ, pos, negsuc, suc, nat_lt, unsigned_abs, ◌%◌, ◌^◌}
+use Rattle.std.specs.Prelude.{ℤ, pos, negsuc, zero, suc, cond, ◌/◌, nat_lt, unsigned_abs, ◌%◌, ◌^◌}
 use Rattle.std.specs.List.{list_all, list_any, join_with_byte}
 use Rattle.std.specs.Fmt.{decimal, signed_decimal}
 use Rattle.std.proofs.lemmas.Bool.{and_parts, and_from, or_cases, or_parts, ne_eqb, eq-eqb, ltb-true, ltb-false, lt-ltb, le-ltb}
+use Rattle.std.proofs.Math.Nat.{div-le_self}
 use Rattle.std.proofs.lemmas.Fmt.{decimal_by_steps}
 use Rattle.std.proofs.lemmas.List.Folds.{list_all-append}
 use Rattle.map_lex.specs.Bytes.{is_blank, is_stray}
-use Rattle.map_lex.specs.OneToken.{quotes_are_escaped, is_value_text, is_key_text, ends_with_backslash}
+use Rattle.map_lex.specs.OneToken.{quotes_are_escaped, is_value_text, is_key_text, is_material_text, needs_quotes, begins_with_quote, ends_with_backslash}
+use Rattle.algebra.specs.Space.{Vector}
+use Rattle.fixed_num.specs.Shortest.{shortest_decimal, minus_of, places, fraction_text}
 use Rattle.cmd_text.specs.Cut.{is_quote, is_stray as is_line_stray}
 use Rattle.cmd_text.specs.Kept.{IsPoint, IsText, IsNameText}
 use Rattle.cmd_text.specs.Spelling.{is_name}
 use Rattle.map_model.specs.Commands.{point_in}
 use Rattle.map_model.specs.Own.{point_text}
+use Rattle.map_model.specs.Origins.{written_origin}
 use Rattle.map_laws.proofs.Slots.{by_bool}
 
 -- A byte that may stand anywhere in a value: no quote, no line feed, and none that is stray.
@@ -103,6 +107,33 @@ pub name_key : (name : List ℕ) → IsNameText name → is_key_text name ≡ tr
 unfolding is_name
 name_key name h = and_from (is_value_text name) (not (ends_with_backslash name)) (name_value name h) (and_parts (nat_lt 0 (length name)) (not (ends_with_backslash name)) h.name).1
 
+-- A name is a material that can be saved.
+either_way : (t a b : Bool) → a ≡ true → b ≡ true → cond t a b ≡ true
+either_way true a b e f = e
+either_way false a b e f = f
+
+no_strays : (text : List ℕ) → list_all is_plain text ≡ true → list_all (λ b. not (is_stray b)) text ≡ true
+no_strays [] e = refl
+no_strays (b ∷ text) e =
+    let k = and_parts (is_plain b) (list_all is_plain text) e in
+    and_from (not (is_stray b)) (list_all (λ b. not (is_stray b)) text) (and_parts (not (b == 10)) (not (is_stray b)) (plain_fair b k.0).fine).1 (no_strays text k.1)
+
+no_first_quote : (text : List ℕ) → list_all is_plain text ≡ true → not (begins_with_quote text) ≡ true
+no_first_quote [] e = refl
+no_first_quote (b ∷ text) e = ap not ((plain_fair b (and_parts (is_plain b) (list_all is_plain text) e).0).no_quote)
+
+pub name_material : (name : List ℕ) → IsNameText name → is_material_text name ≡ true
+name_material name h =
+    let plain = all_plain name h.is_text.no_quote h.is_text.no_stray in
+    either_way (needs_quotes name) (is_key_text name) (not (begins_with_quote name) && list_all (λ b. not (is_stray b)) name) (name_key name h)
+    (and_from (not (begins_with_quote name)) (list_all (λ b. not (is_stray b)) name) (no_first_quote name plain) (no_strays name plain))
+
+pub name_some : (name : List ℕ) → IsNameText name → (length name == 0) ≡ false
+unfolding is_name
+name_some name h =
+    let some = ltb-true 0 (length name) (and_parts (nat_lt 0 (length name)) (not (ends_with_backslash name)) h.name).0 in
+    ne_eqb (length name) 0 (λ e. omega arith)
+
 -- Three coordinates, with a blank between two.
 point_value : (x y z : ℤ) → unsigned_abs x ≤ 4352 → unsigned_abs y ≤ 4352 → unsigned_abs z ≤ 4352 → is_value_text (join_with_byte 32 (signed_decimal x ∷ signed_decimal y ∷ signed_decimal z ∷ [])) ≡ true
 point_value x y z hx hy hz =
@@ -114,3 +145,30 @@ place_value [] h = point_value (pos 0) (pos 0) (pos 0) (omega arith) (omega arit
 place_value (x ∷ []) h = point_value x (pos 0) (pos 0) h.0 (omega arith) (omega arith)
 place_value (x ∷ y ∷ []) h = point_value x y (pos 0) h.0 h.1.0 (omega arith)
 place_value (x ∷ y ∷ z ∷ more) h = point_value x y z h.0 h.1.0 h.1.1.0
+
+-- The moved place of an entity, in decimals.
+calm_places : (decimals rest : ℕ) → list_all is_calm (places decimals rest) ≡ true
+calm_places zero rest = refl
+calm_places (suc n) rest = elim (rest == 0) as (λ b. list_all is_calm (cond b [] ((48 + rest / 10 ^ n) ∷ places n (rest % 10 ^ n))) ≡ true) [
+  | true ↦ refl
+  | false ↦ and_from (is_calm (48 + rest / 10 ^ n)) (list_all is_calm (places n (rest % 10 ^ n))) (calm_digit (rest / 10 ^ n)) (calm_places n (rest % 10 ^ n))
+]
+
+calm_fraction : (decimals rest : ℕ) → list_all is_calm (fraction_text decimals rest) ≡ true
+calm_fraction decimals rest = elim (rest == 0) as (λ b. list_all is_calm (cond b [] (46 ∷ places decimals rest)) ≡ true) [
+  | true ↦ refl
+  | false ↦ and_from true (list_all is_calm (places decimals rest)) refl (calm_places decimals rest)
+]
+
+calm_minus : (z : ℤ) → list_all is_calm (minus_of z) ≡ true
+calm_minus (pos n) = refl
+calm_minus (negsuc n) = refl
+
+calm_shortest : (z : ℤ) → unsigned_abs z < 1000000000000 → list_all is_calm (shortest_decimal 6 z) ≡ true
+calm_shortest z h =
+    calm_all (minus_of z) _ (calm_minus z) (calm_all (decimal (unsigned_abs z / 1000000)) _ (calm_decimal (unsigned_abs z / 1000000) (omega (arith, div-le_self (unsigned_abs z) 1000000))) (calm_fraction 6 (unsigned_abs z % 1000000)))
+
+pub written_value : (v : Vector) → unsigned_abs v.x < 1000000000000 → unsigned_abs v.y < 1000000000000 → unsigned_abs v.z < 1000000000000 → is_value_text (written_origin v) ≡ true
+written_value v hx hy hz =
+    fair_value is_calm calm_fair (written_origin v)
+    (calm_all (shortest_decimal 6 v.x) _ (calm_shortest v.x hx) (and_from true _ refl (calm_all (shortest_decimal 6 v.y) _ (calm_shortest v.y hy) (and_from true _ refl (calm_shortest v.z hz)))))

@@ -1,13 +1,13 @@
 -- The commands of the tree, where no group is linked: from the shape before to the shape after.
-use Rattle.std.proofs.Common.{◌≡◌, ◌≢◌, ℕ, List, [], ◌∷◌, flat_map, Bool, true, false, ◌==◌, ◌&&◌, ◌||◌, ◌⊎◌, inl, inr, refl, ap, sym, ◌∙◌, arith, Some, None, option_map}
+use Rattle.std.proofs.Common.{◌≡◌, ℕ, List, [], ◌∷◌, flat_map, Bool, true, false, ◌==◌, ◌&&◌, ◌||◌, ◌⊎◌, inl, inr, refl, ap, sym, ◌∙◌, arith, Some, None, option_map}
 use Rattle.std.specs.Str.{bytes_eq}
-use Rattle.std.proofs.lemmas.Bool.{or_parts, and_from, eq-eqb, ne_eqb}
+use Rattle.std.proofs.lemmas.Bool.{or_parts, and_from, eq-eqb}
 use Rattle.uv_lock.specs.declared.texture.Format.{Format}
 use Rattle.algebra.specs.Members.{here}
 use Rattle.map_lex.specs.OneToken.{is_value_text}
-use Rattle.map_model.specs.Tree.{Whole, Node, Kind, world, layer, group, entity, brush, at, kind_of, parent_of, brushes_of, others_of, props_of, with_parent, with_props, with_frozen, format_of}
+use Rattle.map_model.specs.Tree.{Whole, Node, Kind, world, layer, group, entity, brush, at, kind_of, props_of, with_props, with_frozen, format_of}
 use Rattle.map_model.specs.Tree.{Layer as LayerNode, Group as GroupNode, Entity as EntityNode}
-use Rattle.map_model.specs.Edits.{renew, put_last}
+use Rattle.map_model.specs.Edits.{renew}
 use Rattle.map_model.specs.Shape.{Shape, NodeOk}
 use Rattle.map_model.specs.Below.{Below}
 use Rattle.map_model.specs.Props.{set_value, without_key, is_file_key, classname, origin}
@@ -16,17 +16,12 @@ use Rattle.map_model.specs.Replies.{ReservedKey}
 use Rattle.map_model.specs.Rows.{rows, first, edits, has_props}
 use Rattle.map_model.specs.Own.{own, point_text}
 use Rattle.map_model.specs.Apply.{prune}
-use Rattle.map_laws.specs.Placed.{Placed, Bounded, KeepsAll, NewOk, can_hold}
+use Rattle.map_laws.specs.Placed.{KeepsAll, NewOk}
 use Rattle.map_laws.specs.Unlinked.{Unlinked}
 use Rattle.map_laws.specs.TreeCommands.{is_tree_command, UnlinkedApplyLaw, UnlinkedRowsLaw, TreeCommandLaw}
-use Rattle.map_laws.proofs.Forest.{PutNew, brush_kind, not_none}
-use Rattle.map_laws.proofs.Lists.{by_eq}
-use Rattle.map_laws.proofs.Skeleton.{kind_at, forest, planted, placed_of, is_kind_by}
-use Rattle.map_laws.proofs.Slots.{takes_kind}
-use Rattle.map_laws.proofs.Placing.{put_new_last, put_last_placed, held-takes, no_slot}
-use Rattle.map_laws.proofs.Kept.{put_last_comes}
+use Rattle.map_laws.proofs.Skeleton.{kind_at, is_kind_by}
 use Rattle.map_laws.proofs.Refused.{nodes_fit, refuse_none}
-use Rattle.map_laws.proofs.Pruned.{kept_pruned, not_emptied, prune_none, test_kind}
+use Rattle.map_laws.proofs.Pruned.{not_emptied, prune_none, test_kind}
 use Rattle.map_laws.proofs.Deleting.{delete_pruned}
 use Rattle.map_laws.proofs.GoingInto.{into_pruned}
 use Rattle.map_laws.proofs.Dissolving.{ungroup_pruned}
@@ -36,6 +31,7 @@ use Rattle.map_laws.proofs.Renewing.{renew_alike, renew_shape, same_children, sa
 use Rattle.map_laws.proofs.Properties.{node_put, node_without}
 use Rattle.map_laws.proofs.Parts.{keeps_props, keeps_frozen, frozen_ok}
 use Rattle.map_laws.proofs.Texts.{text_value, name_value, name_key, place_value}
+use Rattle.map_laws.proofs.NewNodes.{put_in_world}
 use Rattle.map_laws.proofs.RowsPass.{rows_pass}
 use Rattle.map_laws.proofs.Unlinking.{Outcome, EndsPlainly, outcome_of, outcome_same, apply_is, accepted_shape}
 use Rattle.map_laws.proofs.TreeRows.{rows_are}
@@ -47,43 +43,6 @@ renewed m c n g keeps shape unlinked ok =
     let u : Unlinked (renew n g m) = λ q. same_linked l q ∙ unlinked q in
     let same : prune m c (renew n g m) ≡ renew n g m = prune_none m c (renew n g m) (λ q. not_emptied m (renew n g m) q (λ had j is s. had (sym (same_children l q) ∙ s))) in
     outcome_same m c (renew n g m) same (renew_shape m n g keeps shape ok) u
-
--- A command that puts a new node, which is no group, at the end of the world.
-put_in_world : (m : Whole) (c : Command) (x : Node) → Shape m → Unlinked m → can_hold world (kind_of x) ≡ true → parent_of (with_parent 0 x) ≡ Some 0 → brushes_of x ≡ [] → others_of x ≡ [] →
-    (kind_of x ≡ group → ⊥) → NewOk (format_of m) x → Outcome m c (put_last 0 x m)
-put_in_world m c x shape unlinked held gets no_brushes no_others no_group new =
-    outcome_of m c (put_last 0 x m) shape unlinked (kept_pruned (format_of m) m (put_last 0 x m) c shape.standing (record {
-      placed = put_last_placed m 0 x world placed bound is_world held gets no_brushes no_others;
-      comes = put_last_comes (format_of m) m 0 x bound new;
-      groups = λ q e. by_eq q m.next
-          (λ s. absurd (no_group (some_kind (sym (i.new_kinds q (eq-eqb q m.next s)) ∙ e))))
-          (λ ne. sym (i.kinds q (differs q ne)) ∙ e);
-      children = λ a q j e live. (q, i.ups q (differs q (λ s. not_none e ((planted placed).absent q (ap (kind_at m) s ∙ no_slot (at m m.next) free)))) ∙ e);
-    }))
-  where
-    placed : Placed m
-    placed = placed_of shape.standing
-
-    bound : Bounded m
-    bound = shape.numbers.nodes
-
-    free : at m m.next ≡ None
-    free = bound m.next (omega arith)
-
-    is_world : kind_at m 0 ≡ Some world
-    is_world = (planted placed).world_stands
-
-    apart : 0 ≢ m.next
-    apart s = not_none is_world (ap (kind_at m) s ∙ no_slot (at m m.next) free)
-
-    i : PutNew 0 (λ q. q == m.next) (kind_of x) (forest m) (forest (put_last 0 x m))
-    i = put_new_last m (planted placed) 0 x free apart (ap (takes_kind (brush_kind (kind_of x))) is_world ∙ held-takes world (kind_of x) held) gets no_brushes no_others
-
-    differs : (q : ℕ) → q ≢ m.next → (q == m.next) ≡ false
-    differs q ne = ne_eqb q m.next ne
-
-    some_kind : {j k : Kind} → Some j ≡ Some k → j ≡ k
-    some_kind {j} {k} e = cc
 
 world_or_entity : (k : Kind) → has_props k ≡ true → (k ≡ world) ⊎ (k ≡ entity)
 world_or_entity world e = inl refl

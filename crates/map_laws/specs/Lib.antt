@@ -3,3 +3,5 @@ pub mod Walking
 pub mod Editing
 pub mod Unlinked
 pub mod TreeCommands
+pub mod MovingCommands
+pub mod BoxCommand

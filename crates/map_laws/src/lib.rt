@@ -4,8 +4,10 @@
 //! A crate whose code makes the changes of a command cites them for the map that comes of it.
 #![tactic(auto)]
 
+ghost use Rattle.map_laws.specs.BoxCommand.{MaterialLaw, BoxApplyLaw, BoxCommandLaw};
 ghost use Rattle.map_laws.specs.Walking.{WalksLaw};
 ghost use Rattle.map_laws.specs.Editing.{PutLastLaw, MoveLaw, DeleteLaw, ReplaceLaw, PutAfterLaw, CopyLaw, RenewLaw, PruneLaw};
+ghost use Rattle.map_laws.specs.MovingCommands.{MovingApplyLaw, MovingCommandLaw};
 ghost use Rattle.map_laws.specs.TreeCommands.{UnlinkedApplyLaw, UnlinkedRowsLaw, TreeCommandLaw};
 
 /// What stands above and beneath a node is found with the fuel that there is.
@@ -66,4 +68,29 @@ pub fn unlinked_rows_law()
 /// The commands of the tree keep the shape of a map in which no group is linked.
 pub fn tree_command_law()
     ensures { TreeCommandLaw }
+{}
+
+/// Where no group is linked, a command that moves nodes is its rows, its own changes, pruning and the row of numbers.
+pub fn moving_apply_law()
+    ensures { MovingApplyLaw }
+{}
+
+/// The commands that move nodes keep the shape of a map in which no group is linked, brushes and all.
+pub fn moving_command_law()
+    ensures { MovingCommandLaw }
+{}
+
+/// New faces get a material that can be saved, at the start and once a line has set it.
+pub fn material_law()
+    ensures { MaterialLaw }
+{}
+
+/// Where no group is linked, the command that makes a box is its rows, its own changes and the row of numbers.
+pub fn box_apply_law()
+    ensures { BoxApplyLaw }
+{}
+
+/// The command that makes a box keeps the shape of a map in which no group is linked, and the box is a valid brush.
+pub fn box_command_law()
+    ensures { BoxCommandLaw }
 {}

@@ -1,0 +1,138 @@
+-- The command that makes a box, where no group is linked.
+use Rattle.std.proofs.Common.{inl, inr, ◌≡◌, List, [], ◌∷◌, length, map, Bool, true, false, not, cond, ◌&&◌, refl, ap, sym, ◌∙◌, subst, arith, None, ℤ, pos, negsuc, ◌==◌}
+use Rattle.std.specs.Prelude.{codes, is_none, int_lt, unwrap_or}
+use Rattle.std.specs.List.{list_all}
+use Rattle.std.proofs.lemmas.Bool.{and_parts}
+use Rattle.algebra.specs.Members.{◌∈◌, here, there, Every}
+use Rattle.algebra.specs.Space.{Vector, dot}
+use Rattle.exact_geom.specs.Planes.{ThreePoints, half_space, first_out_of_range, is_zero, is_flat}
+use Rattle.trim_laws.specs.Valid.{Valid}
+use Rattle.moved_laws.proofs.Points.{among_moved}
+use Rattle.uv_lock.specs.BaseAxes.{base_axes_of}
+use Rattle.uv_lock.specs.declared.texture.Format.{Format}
+use Rattle.uv_lock.specs.declared.texture.Format.TheVariants.{Standard, Valve}
+use Rattle.map_lex.specs.OneToken.{is_material_text}
+use Rattle.map_text.specs.Fits.{is_format}
+use Rattle.cmd_text.specs.Kept.{IsPoint}
+use Rattle.map_model.specs.Faces.{axis_unit, format_of_tex}
+use Rattle.map_model.specs.Motions.{vector_at}
+use Rattle.map_model.specs.Tree.{Whole, Brush, format_of}
+use Rattle.map_model.specs.Shape.{Shape, FaceOk, FacesOk, half_spaces, are_below_million, is_tex_in_range}
+use Rattle.map_model.specs.Carry.{plain_tex, in_units}
+use Rattle.map_model.specs.Below.{Below, IsRight}
+use Rattle.map_model.specs.Brushes.{box_planes}
+use Rattle.map_model.specs.Commands.{IsGood, Settings, Box, vector_in, point_in}
+use Rattle.map_model.specs.Replies.{PointRange, NoVolume, OutOfWorld}
+use Rattle.map_model.specs.Rows.{rows, first, plain_face, is_below_each}
+use Rattle.map_model.specs.Own.{own}
+use Rattle.map_model.proofs.Members.{decides_less}
+use Rattle.map_laws.specs.Unlinked.{Unlinked}
+use Rattle.map_laws.specs.BoxCommand.{KeepsMaterial, MaterialLaw, BoxApplyLaw, BoxCommandLaw}
+use Rattle.map_laws.proofs.Refused.{refuse_none}
+use Rattle.map_laws.proofs.RowsPass.{rows_pass}
+use Rattle.map_laws.proofs.Texts.{name_material, name_some}
+use Rattle.map_laws.proofs.NewNodes.{put_in_world}
+use Rattle.map_laws.proofs.MovedFaces.{none_out}
+use Rattle.map_laws.proofs.MovingCommands.{no_refusal, none_by, no_place}
+use Rattle.map_laws.proofs.Boxes.{normals, IsWall, IsNear, box_walls, box_valid}
+use Rattle.map_laws.proofs.Unlinking.{Outcome, EndsPlainly, apply_is, accepted_shape}
+
+-- Faces with plain fields. -----------------------------------------------------------------------------------------------------------
+
+-- A wall isn't flat, and its base axes are in range.
+wall_not_flat : (t : ThreePoints) → IsWall t → is_flat t ≡ false
+wall_not_flat t w = ap is_zero w.is ∙ by w.normal w.along
+  where
+    by : (n : Vector) → n ∈ normals → is_zero n ≡ false
+    by n here = refl
+    by n (there here) = refl
+    by n (there (there here)) = refl
+    by n (there (there (there here))) = refl
+    by n (there (there (there (there here)))) = refl
+    by n (there (there (there (there (there here))))) = refl
+    by n (there (there (there (there (there (there i)))))) = elim i [ ]
+
+abbrev axes_fit : Vector → Bool
+axes_fit n = let axes = in_units (unwrap_or (base_axes_of n) []) in length axes == 2 && list_all (are_below_million 3 axis_unit) axes
+
+axes_in_range : (t : ThreePoints) → IsWall t → is_tex_in_range (plain_tex Valve t) ≡ true
+unfolding base_axes_of dot
+axes_in_range t w = ap (λ n. axes_fit n && true) w.is ∙ ap (λ b. b && true) (by w.normal w.along)
+  where
+    by : (n : Vector) → n ∈ normals → axes_fit n ≡ true
+    by n here = refl
+    by n (there here) = refl
+    by n (there (there here)) = refl
+    by n (there (there (there here))) = refl
+    by n (there (there (there (there here)))) = refl
+    by n (there (there (there (there (there here))))) = refl
+    by n (there (there (there (there (there (there i)))))) = elim i [ ]
+
+tex_in_range : (format : Format) (t : ThreePoints) → IsWall t → is_tex_in_range (plain_tex format t) ≡ true
+tex_in_range Standard t w = refl
+tex_in_range Valve t w = axes_in_range t w
+
+tex_form : (format : Format) (t : ThreePoints) → is_format format (format_of_tex (plain_tex format t)) ≡ true
+tex_form Standard t = refl
+tex_form Valve t = refl
+
+face_ok : (s : Settings) (m : Whole) (t : ThreePoints) → KeepsMaterial s → IsWall t → first_out_of_range t ≡ None → FaceOk (format_of m) (plain_face s m t)
+face_ok s m t material w range = record {
+  form = tex_form (format_of m) t;
+  plane = none_out t range (wall_not_flat t w);
+  material = material;
+  numbers = tex_in_range (format_of m) t w;
+}
+
+each_ok : (s : Settings) (m : Whole) (ts : List ThreePoints) → KeepsMaterial s → ((t : ThreePoints) → t ∈ ts → IsWall t × (first_out_of_range t ≡ None)) → Every (FaceOk (format_of m)) (map (plain_face s m) ts)
+each_ok s m [] material h f i = elim i [ ]
+each_ok s m (t ∷ ts) material h f here = face_ok s m t material (h t here).0 (h t here).1
+each_ok s m (t ∷ ts) material h f (there i) = each_ok s m ts material (λ u j. h u (there j)) f i
+
+plain_halves : (s : Settings) (m : Whole) (ts : List ThreePoints) → half_spaces (map (plain_face s m) ts) ≡ map half_space ts
+plain_halves s m [] = refl
+plain_halves s m (t ∷ ts) = ap (λ l. half_space t ∷ l) (plain_halves s m ts)
+
+pub material_kept : MaterialLaw
+material_kept s (inl e) = subst (λ t. is_material_text (cond (length t == 0) (codes "__TB_empty") t) ≡ true) (sym e) refl
+material_kept s (inr h) = subst (λ b. is_material_text (cond b (codes "__TB_empty") s.material) ≡ true) (sym (name_some s.material h)) (name_material s.material h)
+
+-- The command. -----------------------------------------------------------------------------------------------------------------------
+
+near : (p : List ℤ) → IsPoint p → IsNear (point_in p)
+near [] h = record { x = omega arith; y = omega arith; z = omega arith }
+near (x ∷ []) h = record { x = h.0; y = omega arith; z = omega arith }
+near (x ∷ y ∷ []) h = record { x = h.0; y = h.1.0; z = omega arith }
+near (x ∷ y ∷ z ∷ more) h = record { x = h.0; y = h.1.0; z = h.1.1.0 }
+
+not_false : (b : Bool) → not b ≡ false → b ≡ true
+not_false true e = refl
+not_false false e = absurd (cc)
+
+outcome : (b : Below) (s : Settings) (m : Whole) (x y : List ℤ) → IsRight b → KeepsMaterial s → IsGood (Box x y) → Shape m → Unlinked m → first (rows b s m (Box x y)) ≡ None → Outcome m (Box x y) (own b s m (Box x y))
+outcome b s m x y right material good shape u e =
+    let r = rows_pass b s m (Box x y) e in
+    let faces = map (plain_face s m) (box_planes (point_in x) (point_in y)) in
+    let v = vector_in x in
+    let w = vector_in y in
+    let below = not_false (is_below_each v w) (refuse_none (not (is_below_each v w)) (NoVolume 0) r.volume) in
+    let below_x = and_parts (int_lt v.x w.x) (int_lt v.y w.y && int_lt v.z w.z) below in
+    let below_y = and_parts (int_lt v.y w.y) (int_lt v.z w.z) below_x.1 in
+    let range = no_place (λ f. not (is_none (first_out_of_range f.plane))) 0 faces (no_refusal (PointRange 0) _ r.points) in
+    let ok : FacesOk (format_of m) faces = record {
+      each = each_ok s m (box_planes (point_in x) (point_in y)) material
+          (λ t i. (box_walls (point_in x) (point_in y) t i, none_by (first_out_of_range t) (range (plain_face s m t) (among_moved (plain_face s m) t (box_planes (point_in x) (point_in y)) i))));
+      valid = subst Valid (sym (plain_halves s m (box_planes (point_in x) (point_in y))))
+          (box_valid (point_in x) (point_in y) ((decides_less v.x w.x).0 below_x.0) ((decides_less v.y w.y).0 below_y.0) ((decides_less v.z w.z).0 below_y.1) b right
+          (near x good.ranges.0) (near y good.ranges.1) (refuse_none (b.leaves_world (map half_space (box_planes (point_in x) (point_in y)))) (OutOfWorld 0) r.world));
+    } in
+    put_in_world m (Box x y) (Brush 0 None faces) shape u refl refl refl refl (λ e. cc) (record { ok = ok; no_link = refl; no_mark = refl })
+
+ends : (b : Below) (s : Settings) (m : Whole) (x y : List ℤ) → EndsPlainly b s m (Box x y)
+ends b s m x y = record { accepted = refl; editing = []; edits = λ k. refl }
+
+pub box_apply : BoxApplyLaw
+box_apply b s m x y right material good shape u = apply_is b s m (Box x y) (ends b s m x y) u (outcome b s m x y right material good shape u)
+
+pub box_command : BoxCommandLaw
+box_command b s m x y a right material good shape u e = accepted_shape b s m (Box x y) a (outcome b s m x y right material good shape u) (sym (box_apply b s m x y right material good shape u) ∙ e)
