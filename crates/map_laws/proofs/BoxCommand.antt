@@ -1,5 +1,5 @@
 -- The command that makes a box, where no group is linked.
-use Rattle.std.proofs.Common.{inl, inr, ◌≡◌, List, [], ◌∷◌, length, map, Bool, true, false, not, cond, ◌&&◌, refl, ap, sym, ◌∙◌, subst, arith, None, ℤ, pos, negsuc, ◌==◌}
+use Rattle.std.proofs.Common.{inl, inr, ◌≡◌, List, [], ◌∷◌, length, map, Bool, true, false, not, cond, ◌&&◌, refl, ap, sym, ◌∙◌, subst, arith, None, ℤ, ◌==◌}
 use Rattle.std.specs.Prelude.{codes, is_none, int_lt, unwrap_or}
 use Rattle.std.specs.List.{list_all}
 use Rattle.std.proofs.lemmas.Bool.{and_parts}
@@ -15,7 +15,6 @@ use Rattle.map_lex.specs.OneToken.{is_material_text}
 use Rattle.map_text.specs.Fits.{is_format}
 use Rattle.cmd_text.specs.Kept.{IsPoint}
 use Rattle.map_model.specs.Faces.{axis_unit, format_of_tex}
-use Rattle.map_model.specs.Motions.{vector_at}
 use Rattle.map_model.specs.Tree.{Whole, Brush, format_of}
 use Rattle.map_model.specs.Shape.{Shape, FaceOk, FacesOk, half_spaces, are_below_million, is_tex_in_range}
 use Rattle.map_model.specs.Carry.{plain_tex, in_units}

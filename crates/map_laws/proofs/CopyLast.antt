@@ -15,7 +15,7 @@ use Rattle.map_laws.proofs.Nodes.{says_parent, list_in}
 use Rattle.map_laws.proofs.Skeleton.{kind_at, list_at, forest, is_brush_is, planted, unplanted, member_is, not_both}
 use Rattle.map_laws.proofs.Slots.{slot_list, takes_kind, says_kind, put_in_gives, parent_up, by_bool}
 use Rattle.map_laws.proofs.Placing.{chains, held-takes, held-holds, no_slot}
-use Rattle.map_laws.proofs.Pieces.{or_else, at-drawn, found_below, found_past, in_range, range_in, range_is, range_out}
+use Rattle.map_laws.proofs.Replacing.{or_else, at-drawn, found_below, found_past, in_range, range_in, range_is, range_out}
 use Rattle.map_laws.proofs.Renumbering.{row, row_same, row_from, row_to, row_out, row_back, row_one, found_row, length-row, tally-map_one, tally-map_none, kind-renumber, list-renumber, parent-renumber}
 use Rattle.map_laws.proofs.Copies.{Copied, copied_grown}
 

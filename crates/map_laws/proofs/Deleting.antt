@@ -15,7 +15,7 @@ use Rattle.map_laws.proofs.Skeleton.{kind_at, planted, placed_of, not_both, kind
 use Rattle.map_laws.proofs.Slots.{member_among}
 use Rattle.map_laws.proofs.Placing.{chains}
 use Rattle.map_laws.proofs.Pruning.{Upwards, ToDo, HadChildren}
-use Rattle.map_laws.proofs.Turns.{AreNodes, Apart, Deleted, delete_all, chains_up, by_member}
+use Rattle.map_laws.proofs.InTurn.{AreNodes, Apart, Deleted, delete_all, chains_up, by_member}
 use Rattle.map_laws.proofs.Refused.{NodesFit}
 use Rattle.map_laws.proofs.Pruned.{Pruned, chain_list, child_of, is_above, no_child, parent_above, pruned_by, rooted_at, test_kind}
 

@@ -17,7 +17,7 @@ use Rattle.map_laws.proofs.Nodes.{says_parent}
 use Rattle.map_laws.proofs.Skeleton.{kind_at, forest, planted, placed_of, up_child, kind_is, is_kind_by}
 use Rattle.map_laws.proofs.Placing.{chains, delete_placed}
 use Rattle.map_laws.proofs.Kept.{Comes, comes_then, comes_itself, bounded_by, delete_comes}
-use Rattle.map_laws.proofs.Turns.{Gone, move_all_gone, by_member, kind-deleted, up-deleted, kind-gone}
+use Rattle.map_laws.proofs.InTurn.{Gone, move_all_gone, by_member, kind-deleted, up-deleted, kind-gone}
 use Rattle.map_laws.proofs.Refused.{NodesFit}
 use Rattle.map_laws.proofs.Holding.{child_of_group, container-holds, group_parent, parent_said}
 use Rattle.map_laws.proofs.Pruned.{KeepsChildren, NoneEmptied, Pruned, child_of, kept_pruned, some_child}

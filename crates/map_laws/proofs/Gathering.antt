@@ -22,7 +22,7 @@ use Rattle.map_laws.proofs.Slots.{member_among, by_bool, takes_kind}
 use Rattle.map_laws.proofs.Placing.{chains, put_last_placed, put_new_last, held-takes, no_slot}
 use Rattle.map_laws.proofs.Pruning.{Upwards, ToDo, HadChildren}
 use Rattle.map_laws.proofs.Kept.{Comes, comes_then, bounded_by, put_last_comes}
-use Rattle.map_laws.proofs.Turns.{MayGo, Gone, move_all_gone, chains_up, by_member}
+use Rattle.map_laws.proofs.InTurn.{MayGo, Gone, move_all_gone, chains_up, by_member}
 use Rattle.map_laws.proofs.Refused.{NodesFit}
 use Rattle.map_laws.proofs.Holding.{container-holds, entity_parent, is_container, kind_p, kind_q, movable_says, parent_holds, parent_said}
 use Rattle.map_laws.proofs.Pruned.{Pruned, above_live, child_of, in_chain, is_above, no_child, parent_above, pruned_by, rooted_at, rooted_child, test_kind}

@@ -17,7 +17,7 @@ use Rattle.map_laws.proofs.Skeleton.{kind_at, is_brush_is, planted, placed_of, n
 use Rattle.map_laws.proofs.Slots.{member_among}
 use Rattle.map_laws.proofs.Placing.{chains}
 use Rattle.map_laws.proofs.Pruning.{Upwards, ToDo, HadChildren}
-use Rattle.map_laws.proofs.Turns.{MayGo, Gone, move_all_gone, chains_up, by_member}
+use Rattle.map_laws.proofs.InTurn.{MayGo, Gone, move_all_gone, chains_up, by_member}
 use Rattle.map_laws.proofs.Refused.{NodesFit}
 use Rattle.map_laws.proofs.Pruned.{Pruned, chain_list, child_of, is_above, no_child, parent_above, pruned_by, rooted_at, test_kind}
 use Rattle.map_laws.proofs.Holding.{movable_says}

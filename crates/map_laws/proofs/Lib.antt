@@ -6,15 +6,15 @@ pub mod Nodes
 pub mod Skeleton
 pub mod Slots
 pub mod Placing
-pub mod Pieces
+pub mod Replacing
 pub mod Pruning
 pub mod Renumbering
 pub mod Copies
 pub mod CopyLast
 pub mod Kept
-pub mod Turns
+pub mod InTurn
 pub mod Renewing
-pub mod Stated
+pub mod EditLaws
 pub mod Refused
 pub mod Pruned
 pub mod Holding
@@ -31,6 +31,7 @@ pub mod Parts
 pub mod RowsPass
 pub mod Unlinking
 pub mod TreeRows
+pub mod MovingRows
 pub mod NewNodes
 pub mod TreeCommands
 pub mod Boxes

@@ -24,7 +24,7 @@ use Rattle.map_laws.specs.MovingCommands.{is_moving_command, MovingApplyLaw, Mov
 use Rattle.map_laws.proofs.Lists.{tally, tally-no_member}
 use Rattle.map_laws.proofs.Beneath.{Beneath}
 use Rattle.map_laws.proofs.Skeleton.{placed_of}
-use Rattle.map_laws.proofs.Turns.{by_member}
+use Rattle.map_laws.proofs.InTurn.{by_member}
 use Rattle.map_laws.proofs.Pruning.{in_turn_flat}
 use Rattle.map_laws.proofs.Refused.{NodesFit, nodes_fit, first_none, refuse_none, each_none}
 use Rattle.map_laws.proofs.RowsPass.{rows_pass}

@@ -5,7 +5,7 @@ use Rattle.map_model.specs.Tree.{Whole}
 use Rattle.map_model.specs.Below.{Below}
 use Rattle.map_model.specs.Commands.{Command, Settings}
 use Rattle.map_model.specs.Replies.{Refusal}
-use Rattle.map_model.specs.Rows.{rows, first, reserved_key, point_range, no_volume, out_of_world, lock_offset, stuck_origin}
+use Rattle.map_model.specs.Rows.{rows, first, reserved_key, point_range, no_volume, out_of_world, lock_offset}
 use Rattle.map_laws.proofs.Refused.{first_none}
 
 -- Of the rows these tell what commands make of nodes.
@@ -15,7 +15,6 @@ pub record RowsPass (b : Below) (s : Settings) (m : Whole) (c : Command) : Type 
   pub volume : no_volume b m c ≡ None
   pub world : out_of_world b s m c ≡ None
   pub offsets : lock_offset s m c ≡ None
-  pub origins : stuck_origin m c ≡ None
 
 row_none : (rs : List (Option Refusal)) (r : Option Refusal) → first rs ≡ None → r ∈ rs → r ≡ None
 row_none [] r e i = elim i [ ]
@@ -33,5 +32,4 @@ rows_pass b s m c e = record {
   volume = row_none (rows b s m c) (no_volume b m c) e (six (six (six (there (there here)))));
   world = row_none (rows b s m c) (out_of_world b s m c) e (six (six (six (there (there (there (there here)))))));
   offsets = row_none (rows b s m c) (lock_offset s m c) e (six (six (six (there (there (there (there (there here))))))));
-  origins = row_none (rows b s m c) (stuck_origin m c) e (six (six (six (six here))));
 }

@@ -11,19 +11,19 @@ use Rattle.map_laws.specs.TreeCommands.{is_tree_command}
 use Rattle.map_laws.proofs.Unlinking.{none_over, filter_none, no_row}
 
 -- A row that doesn't hold is passed over, and one that is in both lists decides in both.
-skip : (r : Option Refusal) (rs ts : List (Option Refusal)) → r ≡ None → first rs ≡ first ts → first (r ∷ rs) ≡ first ts
+pub skip : (r : Option Refusal) (rs ts : List (Option Refusal)) → r ≡ None → first rs ≡ first ts → first (r ∷ rs) ≡ first ts
 skip r rs ts e h = ap (λ x. first (x ∷ rs)) e ∙ h
 
-both : (r : Option Refusal) (rs ts : List (Option Refusal)) → first rs ≡ first ts → first (r ∷ rs) ≡ first (r ∷ ts)
+pub both : (r : Option Refusal) (rs ts : List (Option Refusal)) → first rs ≡ first ts → first (r ∷ rs) ≡ first (r ∷ ts)
 both None rs ts h = h
 both (Some r) rs ts h = refl
 
-flat_none : (f : ℕ → List ℕ) → ((x : ℕ) → f x ≡ []) → (xs : List ℕ) → flat_map f xs ≡ []
+pub flat_none : (f : ℕ → List ℕ) → ((x : ℕ) → f x ≡ []) → (xs : List ℕ) → flat_map f xs ≡ []
 flat_none f h [] = refl
 flat_none f h (x ∷ xs) = ap (λ l. l ++ flat_map f xs) (h x) ∙ flat_none f h xs
 
 -- The rows of links.
-over_none : (m : Whole) → Unlinked m → (n : ℕ) → option_to_list (over m n) ≡ []
+pub over_none : (m : Whole) → Unlinked m → (n : ℕ) → option_to_list (over m n) ≡ []
 over_none m u n = ap option_to_list (none_over m u n)
 
 no_edits : (m : Whole) (c : Command) → is_tree_command c ≡ true → Unlinked m → (n : ℕ) → edits m c n ≡ []

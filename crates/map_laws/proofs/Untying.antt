@@ -14,7 +14,7 @@ use Rattle.map_laws.proofs.Lists.{by_eq, tally, tally-head, tally-member, member
 use Rattle.map_laws.proofs.Forest.{bit, brush_kind, is_brush_kind, own_place, not_none}
 use Rattle.map_laws.proofs.Skeleton.{kind_at, list_at, children_are, planted, placed_of, kind_is}
 use Rattle.map_laws.proofs.Kept.{comes_then, comes_itself, bounded_by}
-use Rattle.map_laws.proofs.Turns.{by_member}
+use Rattle.map_laws.proofs.InTurn.{by_member}
 use Rattle.map_laws.proofs.Refused.{NodesFit}
 use Rattle.map_laws.proofs.Holding.{child_of_entity, container-holds, entity_parent, kind_q, parent_holds, parent_said}
 use Rattle.map_laws.proofs.Pruned.{Pruned, kept_pruned}

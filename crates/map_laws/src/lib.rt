@@ -4,10 +4,10 @@
 //! A crate whose code makes the changes of a command cites them for the map that comes of it.
 #![tactic(auto)]
 
-ghost use Rattle.map_laws.specs.BoxCommand.{MaterialLaw, BoxApplyLaw, BoxCommandLaw};
+ghost use Rattle.map_laws.specs.BoxCommand.{MaterialLaw, BoxRowsLaw, BoxApplyLaw, BoxCommandLaw};
 ghost use Rattle.map_laws.specs.Walking.{WalksLaw};
 ghost use Rattle.map_laws.specs.Editing.{PutLastLaw, MoveLaw, DeleteLaw, ReplaceLaw, PutAfterLaw, CopyLaw, RenewLaw, PruneLaw};
-ghost use Rattle.map_laws.specs.MovingCommands.{MovingApplyLaw, MovingCommandLaw};
+ghost use Rattle.map_laws.specs.MovingCommands.{MovingRowsLaw, MovingApplyLaw, MovingCommandLaw};
 ghost use Rattle.map_laws.specs.TreeCommands.{UnlinkedApplyLaw, UnlinkedRowsLaw, TreeCommandLaw};
 
 /// What stands above and beneath a node is found with the fuel that there is.
@@ -70,6 +70,11 @@ pub fn tree_command_law()
     ensures { TreeCommandLaw }
 {}
 
+/// Where no group is linked, nine rows can refuse a command that moves nodes.
+pub fn moving_rows_law()
+    ensures { MovingRowsLaw }
+{}
+
 /// Where no group is linked, a command that moves nodes is its rows, its own changes, pruning and the row of numbers.
 pub fn moving_apply_law()
     ensures { MovingApplyLaw }
@@ -83,6 +88,11 @@ pub fn moving_command_law()
 /// New faces get a material that can be saved, at the start and once a line has set it.
 pub fn material_law()
     ensures { MaterialLaw }
+{}
+
+/// Three rows can refuse a box.
+pub fn box_rows_law()
+    ensures { BoxRowsLaw }
 {}
 
 /// Where no group is linked, the command that makes a box is its rows, its own changes and the row of numbers.

@@ -1,17 +1,17 @@
 -- Edits in turn: several nodes deleted, several moved; and the chains along which a map is pruned.
-use Rattle.std.proofs.Common.{◌≡◌, ◌≢◌, ℕ, List, [], ◌∷◌, ◌++◌, flat_map, Bool, true, false, ◌⊎◌, inl, inr, refl, ap, sym, ◌∙◌, subst, arith, Option, Some, None, option_map}
+use Rattle.std.proofs.Common.{◌≡◌, ◌≢◌, ℕ, List, [], ◌∷◌, ◌++◌, flat_map, Bool, true, false, ◌⊎◌, inl, inr, refl, ap, sym, ◌∙◌, subst, arith, Option, Some, None}
 use Rattle.uv_lock.specs.declared.texture.Format.{Format}
 use Rattle.algebra.specs.Members.{◌∈◌, here, there}
-use Rattle.map_model.specs.Tree.{Whole, Node, Kind, at, up, above, among, preorder, is_brush, with_parent}
-use Rattle.map_model.specs.Edits.{each_in_turn, take_out, put_in, delete, move_all, relist}
+use Rattle.map_model.specs.Tree.{Whole, Kind, at, up, above, among, preorder, is_brush}
+use Rattle.map_model.specs.Edits.{each_in_turn, take_out, put_in, delete, move_all}
 use Rattle.map_laws.specs.Placed.{Placed, Bounded, can_hold}
 use Rattle.map_laws.proofs.Lists.{by_eq, tally, tally-member, member-tally, member-left}
 use Rattle.map_laws.proofs.Beneath.{Beneath, some_one, itself, under}
 use Rattle.map_laws.proofs.Fuel.{Chains, in_preorder, from_preorder, above-step, above-top, parent_rooted}
 use Rattle.map_laws.proofs.Forest.{TakenOut, PutIn, Forgotten, brush_kind, is_brush_kind, not_none, up_or_not}
-use Rattle.map_laws.proofs.Nodes.{says_parent, list-with_parent}
-use Rattle.map_laws.proofs.Skeleton.{kind_at, list_at, forest, is_brush_is, planted, not_both}
-use Rattle.map_laws.proofs.Slots.{slot_list, at-renew_other, renew-keeps, relisted, list-relisted_elsewhere, taken_at, takes_kind, taken_out, put_in_gives, parent_up, forgotten, among_member, member_among, by_bool}
+use Rattle.map_laws.proofs.Nodes.{says_parent}
+use Rattle.map_laws.proofs.Skeleton.{kind_at, forest, is_brush_is, planted, not_both}
+use Rattle.map_laws.proofs.Slots.{takes_kind, taken_out, put_in_gives, parent_up, forgotten, among_member, member_among, by_bool}
 use Rattle.map_laws.proofs.Placing.{chains, held-takes, move_placed, delete_placed}
 use Rattle.map_laws.proofs.Pruning.{Upwards}
 use Rattle.map_laws.proofs.Kept.{Comes, comes_then, comes_itself, bounded_by, move_comes, delete_comes}
@@ -135,8 +135,6 @@ pub record MovedAll (p : ℕ) (ns : List ℕ) (m k : Whole) : Type 0 where
   pub kinds : (q : ℕ) → kind_at k q ≡ kind_at m q
   pub ups_in : (q : ℕ) → q ∈ ns → up k q ≡ Some p
   pub ups_out : (q : ℕ) → (q ∈ ns → ⊥) → up k q ≡ up m q
-  pub ats : (q : ℕ) → (q ∈ ns → ⊥) → q ≢ p → ((n : ℕ) → n ∈ ns → up m n ≡ Some q → ⊥) → at k q ≡ at m q
-  pub lists : (b : Bool) (q : ℕ) → q ≢ p → ((n : ℕ) → n ∈ ns → up m n ≡ Some q → ⊥) → list_at b k q ≡ list_at b m q
 
 -- Each of the numbers may go into p.
 abbrev pub MayGo : Whole → ℕ → Kind → List ℕ → Type 0
@@ -185,27 +183,11 @@ module _ (m : Whole) (p n : ℕ) (j k : Kind) (placed : Placed m) (is_j : kind_a
       let up_q : up m q ≡ Some r = sym (one_other q (λ s. low (subst (λ x. Beneath (up m) n x) (sym s) itself))) ∙ e in
       under q r up_q (still_apart a r (λ c. low (under q r up_q c)) b)
 
-one_at : (m : Whole) (p n q : ℕ) → q ≢ n → q ≢ p → (up m n ≡ Some q → ⊥) → at (put_in p n (take_out n m)) q ≡ at m q
-one_at m p n q ne other far =
-    at-renew_other (relisted p (is_brush (take_out n m) n) (λ l. l ++ n ∷ []) (take_out n m)) n q (with_parent p) ne
-    ∙ at-renew_other (take_out n m) p q (relist (is_brush (take_out n m) n) (λ l. l ++ n ∷ [])) other
-    ∙ taken_at m n q far
-
-parent_list : (c : Bool) (p : ℕ) (o : Option Node) → slot_list c (option_map (with_parent p) o) ≡ slot_list c o
-parent_list c p None = refl
-parent_list c p (Some x) = list-with_parent c p x
-
-one_list : (m : Whole) (p n : ℕ) (b : Bool) (q : ℕ) → q ≢ p → (up m n ≡ Some q → ⊥) → list_at b (put_in p n (take_out n m)) q ≡ list_at b m q
-one_list m p n b q other far =
-    renew-keeps (slot_list b) (with_parent p) (parent_list b p) (relisted p (is_brush (take_out n m) n) (λ l. l ++ n ∷ []) (take_out n m)) n q
-    ∙ list-relisted_elsewhere (take_out n m) p (is_brush (take_out n m) n) (λ l. l ++ n ∷ []) b q other
-    ∙ ap (slot_list b) (taken_at m n q far)
-
 pub move_all_gone : (f : Format) (p : ℕ) (j : Kind) (ns : List ℕ) (m : Whole) → Placed m → Bounded m → kind_at m p ≡ Some j → MayGo m p j ns → Gone f p ns m (move_all p ns m)
 move_all_gone f p j [] m placed bound is_j may = record {
   placed = placed;
   comes = comes_itself f m bound;
-  moved = record { kinds = λ q. refl; ups_in = λ q i. elim i [ ]; ups_out = λ q none. refl; ats = λ q none ne far. refl; lists = λ b q ne far. refl };
+  moved = record { kinds = λ q. refl; ups_in = λ q i. elim i [ ]; ups_out = λ q none. refl };
 }
 move_all_gone f p j (n ∷ ns) m placed bound is_j may =
     let w = may n here in
@@ -222,10 +204,6 @@ move_all_gone f p j (n ∷ ns) m placed bound is_j may =
         ups_in = λ q i. by_member q ns (λ l. rest.moved.ups_in q l) (λ none. rest.moved.ups_out q none
             ∙ ap (up k) (only q none i) ∙ one_up m p n j w.0 placed is_j w.1 w.2 w.3 w.4);
         ups_out = λ q none. rest.moved.ups_out q (λ l. none (there l)) ∙ one_other m p n j w.0 placed is_j w.1 w.2 w.3 w.4 q (λ s. none (first_is q s));
-        ats = λ q none ne far. rest.moved.ats q (λ l. none (there l)) ne (still (one_up m p n j w.0 placed is_j w.1 w.2 w.3 w.4) (one_other m p n j w.0 placed is_j w.1 w.2 w.3 w.4) q ne far)
-            ∙ one_at m p n q (λ s. none (first_is q s)) ne (far n here);
-        lists = λ b q ne far. rest.moved.lists b q ne (still (one_up m p n j w.0 placed is_j w.1 w.2 w.3 w.4) (one_other m p n j w.0 placed is_j w.1 w.2 w.3 w.4) q ne far)
-            ∙ one_list m p n b q ne (far n here);
       };
     }
   where
@@ -235,21 +213,6 @@ move_all_gone f p j (n ∷ ns) m placed bound is_j may =
 
     first_is : (q : ℕ) → q ≡ n → q ∈ (n ∷ ns)
     first_is q e = rw e here
-
-    still : up (put_in p n (take_out n m)) n ≡ Some p → ((a : ℕ) → a ≢ n → up (put_in p n (take_out n m)) a ≡ up m a) → (q : ℕ) → q ≢ p → ((a : ℕ) → a ∈ (n ∷ ns) → up m a ≡ Some q → ⊥) →
-        (a : ℕ) → a ∈ ns → up (put_in p n (take_out n m)) a ≡ Some q → ⊥
-    still own other q ne far a i e = by_eq a n
-        (λ s. ne (some_one e (ap (up (put_in p n (take_out n m))) s ∙ own)))
-        (λ o. far a (there i) (sym (other a o) ∙ e))
-
--- What stands above a node after a move did so before, or stands above the place to which something over it went.
-pub moved_beneath : (m : Whole) (p : ℕ) (ns : List ℕ) (k : Whole) → MovedAll p ns m k → {h q : ℕ} → Beneath (up k) h q → Beneath (up m) h q ⊎ ((n : ℕ) × (n ∈ ns) × Beneath (up m) n q × Beneath (up k) h p)
-moved_beneath m p ns k moved itself = inl itself
-moved_beneath m p ns k moved {h} (under q s e b) = by_member q ns
-    (λ i. inr (q, i, itself, subst (λ x. Beneath (up k) h x) (some_one e (moved.ups_in q i)) b))
-    (λ out.
-    let u : up m q ≡ Some s = sym (moved.ups_out q out) ∙ e in
-    elim (moved_beneath m p ns k moved b) [ inl w ↦ inl (under q s u w) | inr r ↦ inr (r.0, r.1, under q s u r.2, r.3) ])
 
 -- Chains along which a map is pruned.
 pub upwards_append : (k : Whole) (xs ys : List ℕ) → Upwards k xs → Upwards k ys → Upwards k (xs ++ ys)

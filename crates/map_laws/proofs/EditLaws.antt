@@ -1,4 +1,4 @@
--- The laws as they are stated.
+-- The laws of walks and edits, as they are stated.
 use Rattle.std.proofs.Common.{◌≡◌, ℕ, ◌+◌, ◌≤◌, ◌∷◌, true, ◌⊎◌, inl, inr, refl, ap, sym, ◌∙◌, subst, arith, Option, Some, None, option_map}
 use Rattle.std.specs.Prelude.{is_some}
 use Rattle.map_laws.proofs.Slots.{next-take_out, next-forget}
@@ -14,7 +14,7 @@ use Rattle.map_laws.proofs.Beneath.{Beneath, itself, under}
 use Rattle.map_laws.proofs.Fuel.{Chains, preorder-step, preorder_enough, in_preorder, from_preorder, preorder_once, above-step, above-top, in_above, from_above, parent_rooted}
 use Rattle.map_laws.proofs.Skeleton.{kind_at, planted, kind_is}
 use Rattle.map_laws.proofs.Placing.{chains, put_last_placed, move_placed, delete_placed}
-use Rattle.map_laws.proofs.Pieces.{replace_placed, put_after_placed}
+use Rattle.map_laws.proofs.Replacing.{replace_placed, put_after_placed}
 use Rattle.map_laws.proofs.Pruning.{prune_placed}
 use Rattle.map_laws.proofs.CopyLast.{copy_placed}
 use Rattle.map_laws.proofs.Kept.{Comes, move_comes, delete_comes, put_last_comes, format_kept, each_node_kept, numbers_kept}
