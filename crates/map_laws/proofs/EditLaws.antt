@@ -1,12 +1,13 @@
 -- The laws of walks and edits, as they are stated.
-use Rattle.std.proofs.Common.{◌≡◌, ℕ, ◌+◌, ◌≤◌, ◌∷◌, true, ◌⊎◌, inl, inr, refl, ap, sym, ◌∙◌, subst, arith, Option, Some, None, option_map}
+use Rattle.std.proofs.Common.{◌≡◌, ℕ, ◌+◌, ◌≤◌, List, [], ◌∷◌, flat_map, Bool, true, false, cond, not, ◌&&◌, ◌⊎◌, inl, inr, refl, ap, sym, ◌∙◌, subst, arith, Option, Some, None, option_map}
 use Rattle.std.specs.Prelude.{is_some}
 use Rattle.map_laws.proofs.Slots.{next-take_out, next-forget}
 use Rattle.algebra.specs.Members.{◌∈◌, here, there}
-use Rattle.map_model.specs.Tree.{Whole, Node, Kind, brush, at, up, above, preorder, kind_of, format_of}
-use Rattle.map_model.specs.Edits.{put_in, take_out, put_last, delete}
-use Rattle.map_laws.specs.Placed.{Placed}
-use Rattle.map_laws.specs.Placed.{Sound, IsNode}
+use Rattle.map_model.specs.Tree.{Whole, Node, Kind, brush, at, up, above, preorder, kind_of, is_linked, format_of}
+use Rattle.map_model.specs.Edits.{each_in_turn, put_in, take_out, put_last, delete, forget, replace_by, put_after, copy_last}
+use Rattle.map_model.specs.Rows.{named}
+use Rattle.map_model.specs.Apply.{is_emptied, drop_emptied}
+use Rattle.map_laws.specs.Placed.{Placed, Sound, IsNode}
 use Rattle.map_laws.specs.Walking.{WalksLaw}
 use Rattle.map_laws.specs.Editing.{PutLastLaw, MoveLaw, DeleteLaw, ReplaceLaw, PutAfterLaw, CopyLaw, RenewLaw, PruneLaw}
 use Rattle.map_laws.proofs.Lists.{count-tally}
@@ -15,11 +16,12 @@ use Rattle.map_laws.proofs.Fuel.{Chains, preorder-step, preorder_enough, in_preo
 use Rattle.map_laws.proofs.Skeleton.{kind_at, planted, kind_is}
 use Rattle.map_laws.proofs.Placing.{chains, put_last_placed, move_placed, delete_placed}
 use Rattle.map_laws.proofs.Replacing.{replace_placed, put_after_placed}
-use Rattle.map_laws.proofs.Pruning.{prune_placed}
+use Rattle.map_laws.proofs.Pruning.{drop_all_placed, prune-walk}
 use Rattle.map_laws.proofs.CopyLast.{copy_placed}
 use Rattle.map_laws.proofs.Kept.{Comes, move_comes, delete_comes, put_last_comes, format_kept, each_node_kept, numbers_kept}
 use Rattle.map_laws.proofs.Renewing.{renew_shape}
-use Rattle.map_laws.proofs.Pruned.{rooted_child}
+use Rattle.map_laws.proofs.Pruned.{drops_come, rooted_child}
+use Rattle.map_laws.proofs.Drawing.{replace_comes, put_after_comes, copy_comes}
 use Rattle.map_laws.proofs.Holding.{movable_says}
 
 slot_kind : (o : Option Node) → is_some o ≡ true → (k : Kind) × (option_map kind_of o ≡ Some k)
@@ -83,17 +85,32 @@ delete_is m n s low e =
     (subst (λ k. k ≤ 65536) (sym (next-forget (preorder m n) (take_out n m) ∙ next-take_out m n)) s.numbers.most)
 
 pub replace_is : ReplaceLaw
-replace_is m a p results placed bound u e = replace_placed m placed bound a p u (kind_is m brush a e) results
+replace_is m a p results s u e ok most =
+    sound_by m (replace_by a results m) s (replace_placed m s.placed s.numbers.nodes a p u (kind_is m brush a e) results) (replace_comes (format_of m) m a results s.numbers.nodes ok) most
 
 pub put_after_is : PutAfterLaw
-put_after_is m a p faces placed bound u e = put_after_placed m a p faces placed bound u (kind_is m brush a e)
+put_after_is m a p faces s u e ok most =
+    sound_by m (put_after a faces m) s (put_after_placed m a p faces s.placed s.numbers.nodes u (kind_is m brush a e)) (put_after_comes (format_of m) m a faces s.numbers.nodes ok) most
 
 pub copy_is : CopyLaw
-copy_is m p n f x y placed bound is_p is_n held movable keeps =
-    copy_placed m p n f (kind_of y) (kind_of x) placed bound (kind_slot m p y is_p) (kind_slot m n x is_n) held (movable_says (kind_of x) movable) keeps
+copy_is m p n f x y s is_p is_n held movable keeps new most =
+    sound_by m (copy_last p f n m) s
+    (copy_placed m p n f (kind_of y) (kind_of x) s.placed s.numbers.nodes (kind_slot m p y is_p) (kind_slot m n x is_n) held (movable_says (kind_of x) movable) keeps)
+    (copy_comes (format_of m) m p f n s.numbers.nodes new) most
 
 pub renew_is : RenewLaw
 renew_is = renew_shape
 
+next-dropped : (before : Whole) (ns : List ℕ) (m : Whole) → (each_in_turn (drop_emptied before) ns m).next ≡ m.next
+next-dropped before [] m = refl
+next-dropped before (n ∷ ns) m = next-dropped before ns (drop_emptied before n m) ∙ by (is_emptied before m n && not (is_linked m n))
+  where
+    by : (b : Bool) → (cond b (forget (n ∷ []) (take_out n m)) m).next ≡ m.next
+    by true = next-forget (n ∷ []) (take_out n m) ∙ next-take_out m n
+    by false = refl
+
 pub prune_is : PruneLaw
-prune_is = prune_placed
+prune_is before c m s =
+    let walk = flat_map (above before) (named c) in
+    subst Sound (sym (prune-walk before c m))
+    (sound_by m (each_in_turn (drop_emptied before) walk m) s (drop_all_placed before walk m s.placed) (drops_come (format_of m) before walk m s.numbers.nodes) (subst (λ k. k ≤ 65536) (sym (next-dropped before walk m)) s.numbers.most))

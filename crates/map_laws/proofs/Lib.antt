@@ -14,7 +14,7 @@ pub mod CopyLast
 pub mod Kept
 pub mod InTurn
 pub mod Renewing
-pub mod EditLaws
+pub mod Drawing
 pub mod Refused
 pub mod Pruned
 pub mod Holding
@@ -24,6 +24,7 @@ pub mod Dissolving
 pub mod Untying
 pub mod Gathering
 pub mod Texts
+pub mod EditLaws
 pub mod Properties
 pub mod MovedFaces
 pub mod MovedNodes
