@@ -1,22 +1,23 @@
 -- copy_last keeps maps placed: the new nodes are the old ones under other numbers.
-use Rattle.std.proofs.Common.{◌≡◌, ◌≢◌, ℕ, ◌<◌, List, length, map, flat_map, Bool, true, false, inl, inr, refl, ap, sym, ◌∙◌, subst, arith, Option, Some, None, option_map}
+use Rattle.std.proofs.Common.{◌≡◌, ◌≢◌, ℕ, ◌<◌, List, [], ◌∷◌, ◌++◌, length, map, flat_map, Bool, true, false, inl, inr, refl, ap, sym, ◌∙◌, subst, arith, Option, Some, None, option_map}
 use Rattle.std.specs.Prelude.{option_and_then}
 use Rattle.std.specs.List.{filter_map}
 use Rattle.std.proofs.lemmas.Bool.{cases_lt}
 use Rattle.algebra.specs.Members.{◌∈◌}
-use Rattle.map_model.specs.Tree.{Whole, Node, Kind, world, at, up, is_brush, kind_of, parent_of, children, preorder}
-use Rattle.map_model.specs.Edits.{draw, each_in_turn, put_in, copy_last, renumber}
-use Rattle.map_laws.specs.Placed.{Placed, Bounded, can_hold, KeepsPlace}
+use Rattle.map_model.specs.Tree.{Whole, Node, Kind, world, group, at, up, is_brush, kind_of, parent_of, with_parent, children, preorder}
+use Rattle.map_model.specs.Edits.{draw, each_in_turn, put_in, copy_last, relist, renew, renumber}
+use Rattle.map_laws.specs.Placed.{Placed, Bounded, NoEmptyGroup, can_hold, KeepsPlace}
 use Rattle.map_laws.proofs.Lists.{tally}
-use Rattle.map_laws.proofs.Beneath.{Beneath, some_one, itself, under}
-use Rattle.map_laws.proofs.Fuel.{Chains, in_preorder, from_preorder, preorder-step, preorder_once}
+use Rattle.map_laws.proofs.Beneath.{Beneath, some_one, no_circle, itself, under}
+use Rattle.map_laws.proofs.Fuel.{Chains, in_preorder, from_preorder, preorder-step, preorder_once, parent_rooted}
 use Rattle.map_laws.proofs.Forest.{Grown, PutIn, brush_kind, is_brush_kind, holds, not_none}
 use Rattle.map_laws.proofs.Nodes.{says_parent, list_in}
-use Rattle.map_laws.proofs.Skeleton.{kind_at, list_at, forest, is_brush_is, planted, unplanted, member_is, not_both}
-use Rattle.map_laws.proofs.Slots.{slot_list, takes_kind, says_kind, put_in_gives, parent_up, by_bool}
+use Rattle.map_laws.proofs.Skeleton.{kind_at, list_at, forest, is_brush_is, planted, unplanted, member_is, not_both, kind_is, is_kind_by}
+use Rattle.map_laws.proofs.Slots.{at-renew_other, slot_list, takes_kind, says_kind, put_in_gives, parent_up, by_bool}
 use Rattle.map_laws.proofs.Placing.{chains, held-takes, held-holds, no_slot}
 use Rattle.map_laws.proofs.Replacing.{or_else, at-drawn, found_below, found_past, in_range, range_in, range_is, range_out}
 use Rattle.map_laws.proofs.Renumbering.{row, row_same, row_from, row_to, row_out, row_back, row_one, found_row, length-row, tally-map_one, tally-map_none, kind-renumber, list-renumber, parent-renumber}
+use Rattle.map_laws.proofs.Pruned.{child_of, some_child, rooted_child}
 use Rattle.map_laws.proofs.Copies.{Copied, copied_grown}
 
 slot_of : (o : Option Node) (k : Kind) → option_map kind_of o ≡ Some k → (x : Node) × (o ≡ Some x)
@@ -26,6 +27,13 @@ slot_of (Some x) k e = (x, refl)
 slot_up : (o : Option Node) (p : ℕ) → option_and_then parent_of o ≡ Some p → (x : Node) × (o ≡ Some x)
 slot_up None p e = absurd (cc)
 slot_up (Some x) p e = (x, refl)
+
+pub slot_live : (m : Whole) (q g : ℕ) → up m q ≡ Some g → (k : Kind) × (kind_at m q ≡ Some k)
+slot_live m q g e = by (at m q) e
+  where
+    by : (o : Option Node) → option_and_then parent_of o ≡ Some g → (k : Kind) × (option_map kind_of o ≡ Some k)
+    by None e = absurd (cc)
+    by (Some x) e = (kind_of x, refl)
 
 in_list : (b : Bool) (f : Node → Node) → KeepsPlace f → (x : Node) → list_in b (f x) ≡ list_in b x
 in_list true f k x = k.brushes x
@@ -162,3 +170,48 @@ module _ (m : Whole) (p n : ℕ) (f : Node → Node) (j k : Kind) (placed : Plac
   -- A copy of n with all beneath stands at the end of p.
   pub copy_placed : Placed (copy_last p f n m)
   copy_placed = subst (λ q. Placed (put_in p q d)) top_name (unplanted (put_in p (s n) d) copy_grown)
+
+  -- What the copy leaves: old numbers have their kinds and parents, and all but p their nodes.
+  is_put : copy_last p f n m ≡ put_in p (s n) d
+  is_put = ap (λ q. put_in p q d) (sym top_name)
+
+  not_drawn : (q : ℕ) → q < m.next → D q ≡ false
+  not_drawn q lt = by_bool (D q) (λ e. absurd (omega (arith, (range_in m.next (length ns) q e).0, lt))) (λ e. e)
+
+  not_top : (q : ℕ) → q < m.next → q ≢ s n
+  not_top q lt t = omega (arith, row_from m.next ns n (inside n itself), lt, t)
+
+  pub copy_kinds : (q : ℕ) → q < m.next → kind_at (copy_last p f n m) q ≡ kind_at m q
+  copy_kinds q lt = ap (λ k. kind_at k q) is_put ∙ put.kinds q ∙ copied.kinds q (not_drawn q lt)
+
+  pub copy_ups : (q : ℕ) → q < m.next → up (copy_last p f n m) q ≡ up m q
+  copy_ups q lt = ap (λ k. up k q) is_put ∙ put.ups q (not_top q lt) ∙ copied.ups q (not_drawn q lt)
+
+  pub copy_nodes : (q : ℕ) → q < m.next → q ≢ p → at (copy_last p f n m) q ≡ at m q
+  copy_nodes q lt ne =
+      ap (λ k. at k q) is_put
+      ∙ at-renew_other (renew p (relist (is_brush d (s n)) (λ l. l ++ s n ∷ [])) d) (s n) q (with_parent p) (not_top q lt)
+      ∙ at-renew_other d p q (relist (is_brush d (s n)) (λ l. l ++ s n ∷ [])) ne
+      ∙ drawn_old q (not_drawn q lt)
+
+  -- A group of the copy has a child, as it had.
+  pub copy_full : NoEmptyGroup m → NoEmptyGroup (copy_last p f n m)
+  copy_full full = subst NoEmptyGroup (sym is_put) (λ g is. by_bool (D g) (new_group g (kind_is (put_in p (s n) d) group g is)) (old_group g (kind_is (put_in p (s n) d) group g is)))
+    where
+      placed_put : Placed (put_in p (s n) d)
+      placed_put = subst Placed is_put copy_placed
+
+      old_group : (g : ℕ) → kind_at (put_in p (s n) d) g ≡ Some group → D g ≡ false → children (put_in p (s n) d) g ≢ []
+      old_group g is e =
+          let x = child_of m placed g (full g (is_kind_by m group g (sym (put.kinds g ∙ copied.kinds g e) ∙ is))) in
+          let lt : x.0 < m.next = live_below x.0 (slot_live m x.0 g x.1).0 (slot_live m x.0 g x.1).1 in
+          some_child (put_in p (s n) d) placed_put g x.0 (put.ups x.0 (not_top x.0 lt) ∙ copied.ups x.0 (not_drawn x.0 lt) ∙ x.1)
+
+      new_group : (g : ℕ) → kind_at (put_in p (s n) d) g ≡ Some group → D g ≡ true → children (put_in p (s n) d) g ≢ []
+      new_group g is e =
+          let a = copied.back g e in
+          let x = child_of m placed a.0 (full a.0 (is_kind_by m group a.0 (sym (put.kinds (s a.0) ∙ copied.new_kinds a.0 a.1) ∙ ap (kind_at (put_in p (s n) d)) a.2 ∙ is))) in
+          let w : Beneath (up m) n x.0 = under x.0 a.0 x.1 a.1 in
+          let apart : s x.0 ≢ s n = λ t. no_circle h.top (parent_rooted c a.0 (rooted_child m placed bound x.0 a.0 x.1) x.1) x.1 (subst (λ z. Beneath (up m) z a.0) (sym (copied.one x.0 n w itself t)) a.1) in
+          subst (λ z. children (put_in p (s n) d) z ≢ []) a.2
+          (some_child (put_in p (s n) d) placed_put (s a.0) (s x.0) (put.ups (s x.0) apart ∙ copied.new_ups x.0 w ∙ ap (option_map s) x.1))

@@ -37,5 +37,6 @@ pub mod NewNodes
 pub mod TreeCommands
 pub mod Boxes
 pub mod MovedMaps
+pub mod Copying
 pub mod MovingCommands
 pub mod BoxCommand

@@ -75,14 +75,14 @@ module _ (m : Whole) (placed : Placed m) (bound : Bounded m) (ns : List ℕ) (ro
   c : Chains m
   c = chains m (planted placed) bound
 
-  apart : (a b : ℕ) → a ∈ ns → b ∈ ns → Beneath (up m) a b → a ≡ b
-  apart a b i j itself = refl
-  apart a b i j (under t p e w) = absurd (not_both (lies_beneath m b a) (member_among a (above m b) (is_above m placed bound b p a e w)) (nested b a j i))
+  pub tops_apart : (a b : ℕ) → a ∈ ns → b ∈ ns → Beneath (up m) a b → a ≡ b
+  tops_apart a b i j itself = refl
+  tops_apart a b i j (under t p e w) = absurd (not_both (lies_beneath m b a) (member_among a (above m b) (is_above m placed bound b p a e w)) (nested b a j i))
 
   same_top : (q a b : ℕ) → a ∈ ns → b ∈ ns → q ∈ preorder m a → q ∈ preorder m b → a ≡ b
   same_top q a b i j k l = elim (one_way (from_preorder c m.next a q k) (from_preorder c m.next b q l) refl) [
-    | inl w ↦ apart a b i j w
-    | inr w ↦ sym (apart b a j i w)
+    | inl w ↦ tops_apart a b i j w
+    | inr w ↦ sym (tops_apart b a j i w)
   ]
 
   -- No node is listed twice.

@@ -1,5 +1,5 @@
--- The commands that move nodes in space, where no group is linked: the rows say that each node can be moved.
-use Rattle.std.proofs.Common.{◌≡◌, ℕ, zero, suc, ◌+◌, ◌≤◌, List, [], ◌∷◌, map, flat_map, filter, Bool, true, false, cond, not, refl, ap, sym, ◌∙◌, subst, arith, Option, Some, None, option_map}
+-- The commands that move or copy nodes in space, where no group is linked: the rows say that each node can be moved.
+use Rattle.std.proofs.Common.{◌≡◌, ℕ, zero, suc, ◌+◌, ◌≤◌, List, [], ◌∷◌, map, flat_map, filter, Bool, true, false, cond, not, refl, ap, sym, ◌∙◌, subst, arith, Option, Some, None, option_map, ◌||◌, ◌&&◌}
 use Rattle.std.specs.Prelude.{ℤ, unwrap_or, is_none}
 use Rattle.algebra.specs.Members.{◌∈◌, here, there}
 use Rattle.algebra.specs.Space.{dot}
@@ -8,15 +8,15 @@ use Rattle.exact_geom.specs.declared.axis.Axis.TheVariants.{X, Y, Z}
 use Rattle.exact_geom.specs.Planes.{half_space, first_out_of_range}
 use Rattle.map_model.specs.Faces.{Face}
 use Rattle.map_model.specs.Motions.{is_signed_permutation, quarters, moved_plane}
-use Rattle.map_model.specs.Tree.{Whole, Node, World, Layer, Group, Entity, Brush, brush, has_kind, at, up, preorder, faces_at, faces_of, is_kind, format_of}
+use Rattle.map_model.specs.Tree.{Whole, Node, World, Layer, Group, Entity, Brush, brush, has_kind, at, up, preorder, faces_at, faces_of, is_kind, format_of, among}
 use Rattle.map_model.specs.Edits.{each_in_turn, renew}
 use Rattle.map_model.specs.Shape.{Shape}
 use Rattle.map_model.specs.Below.{Below, IsRight}
-use Rattle.map_model.specs.Commands.{Command, IsGood, Settings, Move, Turn, Flip}
+use Rattle.map_model.specs.Commands.{Command, IsGood, Settings, Copy, Move, Turn, Flip}
 use Rattle.map_model.specs.Replies.{Refusal, PointRange, OutOfWorld, LockOffset, kept}
 use Rattle.map_model.specs.Brushes.{first_place, first_beyond}
 use Rattle.map_model.specs.Carry.{lost_offset}
-use Rattle.map_model.specs.Rows.{rows, first, refuse, at_each, at_each_face, at_each_face_from, named, taken, moved_nodes, all_moved, all_moved_of, motion_of, is_locked, is_movable, beyond, kind_passes, edits}
+use Rattle.map_model.specs.Rows.{rows, first, refuse, at_each, at_each_face, at_each_face_from, named, taken, moved_nodes, all_moved, all_moved_of, motion_of, is_locked, is_movable, beyond, kind_passes, edits, moves_links}
 use Rattle.map_model.specs.Own.{own, move_node, move_all_of}
 use Rattle.map_laws.specs.Placed.{Placed, Bounded}
 use Rattle.map_laws.specs.Unlinked.{Unlinked}
@@ -31,8 +31,10 @@ use Rattle.map_laws.proofs.RowsPass.{rows_pass}
 use Rattle.map_laws.proofs.Pruned.{not_emptied, prune_none, test_kind, rooted_at}
 use Rattle.map_laws.proofs.Renewing.{same_children, same_linked}
 use Rattle.map_laws.proofs.MovedNodes.{moved_unlinked, keeps_moved, CanBeMoved, node_moved}
-use Rattle.map_laws.proofs.MovedMaps.{Renewed, renew_once, moves_unlinked, moved_once}
-use Rattle.map_laws.proofs.Unlinking.{Outcome, EndsPlainly, outcome_same, apply_is, accepted_shape}
+use Rattle.map_laws.proofs.MovedMaps.{Renewed, renew_once, moves_unlinked, tops_apart, moved_once}
+use Rattle.map_laws.proofs.Holding.{movable_says}
+use Rattle.map_laws.proofs.Copying.{copies_outcome}
+use Rattle.map_laws.proofs.Unlinking.{none_over, Outcome, EndsPlainly, outcome_same, apply_is, accepted_shape}
 
 -- What the rows tell of the faces of one brush. --------------------------------------------------------------------------------------
 
@@ -92,7 +94,7 @@ module _ (b : Below) (s : Settings) (m : Whole) (c : Command) (right : IsRight b
   each_once : (q : ℕ) → tally q (all_moved m c) ≤ 1
   each_once q = moved_once m placed bound (moved_nodes c) rooted (λ a b i j. fit.apart a b (is_taken a i) (is_taken b j)) once q
 
-  can_be_moved : (q : ℕ) (x : Node) → q ∈ all_moved m c → at m q ≡ Some x → CanBeMoved b (is_locked s m c q) (motion_of c) x
+  pub can_be_moved : (q : ℕ) (x : Node) → q ∈ all_moved m c → at m q ≡ Some x → CanBeMoved b (is_locked s m c q) (motion_of c) x
   can_be_moved q (World a d e f) i e1 = tt
   can_be_moved q (Layer a d e f g) i e1 = tt
   can_be_moved q (Group a d e f g h j) i e1 = tt
@@ -102,26 +104,26 @@ module _ (b : Below) (s : Settings) (m : Whole) (c : Command) (right : IsRight b
       is : faces_at m q ≡ faces
       is = ap (λ o. unwrap_or (option_map faces_of o) []) e1
 
-      among : q ∈ all_moved_of m brush c
-      among = kept_member (is_kind m brush) q (all_moved m c) i (ap (λ o. unwrap_or (option_map (has_kind brush) o) false) e1)
+      is_listed : q ∈ all_moved_of m brush c
+      is_listed = kept_member (is_kind m brush) q (all_moved m c) i (ap (λ o. unwrap_or (option_map (has_kind brush) o) false) e1)
 
       range : (f : Face) → f ∈ faces → first_out_of_range (moved_plane (motion_of c) f.plane) ≡ None
       range f j = none_by (first_out_of_range (moved_plane (motion_of c) f.plane))
           (no_place (λ f. not (is_none (first_out_of_range (moved_plane (motion_of c) f.plane)))) 0 faces
           (no_refusal (PointRange q) (first_beyond (moved_plane (motion_of c)) faces)
-          (sym (ap (beyond q (moved_plane (motion_of c))) is) ∙ each_none (all_moved_of m brush c) (λ n. beyond n (moved_plane (motion_of c)) (faces_at m n)) points q among)) f j)
+          (sym (ap (beyond q (moved_plane (motion_of c))) is) ∙ each_none (all_moved_of m brush c) (λ n. beyond n (moved_plane (motion_of c)) (faces_at m n)) points q is_listed)) f j)
 
       stays : b.leaves_world (map (λ f. half_space (moved_plane (motion_of c) f.plane)) faces) ≡ false
       stays = sym (ap (λ fs. b.leaves_world (map (λ f. half_space (moved_plane (motion_of c) f.plane)) fs)) is)
           ∙ refuse_none (b.leaves_world (map (λ f. half_space (moved_plane (motion_of c) f.plane)) (faces_at m q))) (OutOfWorld q)
-          (each_none (all_moved_of m brush c) (λ n. refuse (b.leaves_world (map (λ f. half_space (moved_plane (motion_of c) f.plane)) (faces_at m n))) (OutOfWorld n)) world q among)
+          (each_none (all_moved_of m brush c) (λ n. refuse (b.leaves_world (map (λ f. half_space (moved_plane (motion_of c) f.plane)) (faces_at m n))) (OutOfWorld n)) world q is_listed)
 
       offset : (f : Face) → f ∈ faces → is_locked s m c q ≡ true → lost_offset (motion_of c) f.tex ≡ None
       offset f j l =
           let row = λ (k : ℕ) (f : Face). option_map (λ offset. LockOffset q k (kept offset)) (lost_offset (motion_of c) f.tex) in
           let here_none : at_each_face_from 0 (faces_at m q) row ≡ None =
           sym (ap (λ t. cond t (at_each_face m q row) None) l)
-          ∙ each_none (all_moved_of m brush c) (λ n. cond (is_locked s m c n) (at_each_face m n (λ k f. option_map (λ offset. LockOffset n k (kept offset)) (lost_offset (motion_of c) f.tex))) None) offsets q among in
+          ∙ each_none (all_moved_of m brush c) (λ n. cond (is_locked s m c n) (at_each_face m n (λ k f. option_map (λ offset. LockOffset n k (kept offset)) (lost_offset (motion_of c) f.tex))) None) offsets q is_listed in
           let k = no_face row 0 faces (sym (ap (λ fs. at_each_face_from 0 fs row) is) ∙ here_none) f j in
           no_refusal (λ offset. LockOffset q k.0 (kept offset)) (lost_offset (motion_of c) f.tex) k.1
 
@@ -138,6 +140,30 @@ module _ (b : Below) (s : Settings) (m : Whole) (c : Command) (right : IsRight b
       let k = each_in_turn (λ q. renew q (moved_unlinked (is_locked s m c q) (motion_of c))) (all_moved m c) m in
       subst (Outcome m c) (sym is_one_walk)
       (outcome_same m c k (prune_none m c k (λ q. not_emptied m k q (λ had j is none. had (sym (same_children renewed.alike q) ∙ none)))) renewed.shape (λ q. same_linked renewed.alike q ∙ u q))
+
+-- Copies. ----------------------------------------------------------------------------------------------------------------------------
+
+or_nothing : (b : Bool) → (b || false) ≡ b
+or_nothing true = refl
+or_nothing false = refl
+
+-- A copy doesn't move with its group.
+lock_alone : (s : Settings) (m : Whole) (c : Command) → Unlinked m → (q : ℕ) → is_locked s m c q ≡ s.lock
+lock_alone s m c u q = ap (λ o. s.lock || elim o as (λ o. Bool) [ None ↦ false | Some g ↦ moves_links c && among g (all_moved m c) ]) (none_over m u q) ∙ or_nothing s.lock
+
+copying : (b : Below) (s : Settings) (m : Whole) (shift : List ℤ) (ns : List ℕ) → IsRight b → Shape m → Unlinked m → first (rows b s m (Copy shift ns)) ≡ None → Outcome m (Copy shift ns) (own b s m (Copy shift ns))
+copying b s m shift ns right shape u e =
+    let r = rows_pass b s m (Copy shift ns) e in
+    let fit = nodes_fit b s m (Copy shift ns) e in
+    let kinds = λ (n : ℕ) (i : n ∈ ns). test_kind is_movable m n (fit.fit n i) in
+    let rooted = λ (n : ℕ) (i : n ∈ ns). rooted_at m (placed_of shape.standing) shape.numbers.nodes n (kinds n i).0 (kinds n i).1 in
+    let once = λ (n : ℕ). by_member n ns (λ i. fit.once n i) (λ none. omega (arith, tally-no_member n ns none)) in
+    copies_outcome b s.lock (motion_of (Copy shift ns)) m ns right refl shape
+    (λ n i. ((kinds n i).0, (kinds n i).1, movable_says (kinds n i).0 (kinds n i).2))
+    (tops_apart m (placed_of shape.standing) shape.numbers.nodes ns rooted fit.apart once)
+    (λ q x i is. subst (λ l. CanBeMoved b l (motion_of (Copy shift ns)) x) (lock_alone s m (Copy shift ns) u q)
+    (can_be_moved b s m (Copy shift ns) right refl shape u fit fit.fit refl refl r.points r.world r.offsets q x i is))
+    (Copy shift ns) u
 
 -- The motions of commands keep lengths. ----------------------------------------------------------------------------------------------
 
@@ -163,6 +189,7 @@ flips_turn Y at ns = refl
 flips_turn Z at ns = refl
 
 outcome : (b : Below) (s : Settings) (m : Whole) (c : Command) → IsRight b → is_moving_command c ≡ true → IsGood c → Shape m → Unlinked m → first (rows b s m c) ≡ None → Outcome m c (own b s m c)
+outcome b s m (Copy shift ns) right is good shape u e = copying b s m shift ns right shape u e
 outcome b s m (Move shift ns) right is good shape u e =
     let r = rows_pass b s m (Move shift ns) e in
     let fit = nodes_fit b s m (Move shift ns) e in
@@ -178,6 +205,7 @@ outcome b s m (Flip axis at ns) right is good shape u e =
 outcome b s m c right is good shape u e = absurd (cc)
 
 ends : (b : Below) (s : Settings) (m : Whole) (c : Command) → is_moving_command c ≡ true → EndsPlainly b s m c
+ends b s m (Copy shift ns) is = record { accepted = refl; editing = flat_map (edits m (Copy shift ns)) ns; edits = λ k. refl }
 ends b s m (Move shift ns) is = record { accepted = refl; editing = flat_map (edits m (Move shift ns)) ns; edits = λ k. refl }
 ends b s m (Turn axis quarters about ns) is = record { accepted = refl; editing = flat_map (edits m (Turn axis quarters about ns)) ns; edits = λ k. refl }
 ends b s m (Flip axis at ns) is = record { accepted = refl; editing = flat_map (edits m (Flip axis at ns)) ns; edits = λ k. refl }

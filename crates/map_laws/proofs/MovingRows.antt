@@ -1,9 +1,9 @@
--- The rows that can refuse a command that moves nodes in a map in which no group is linked, and those that can refuse a box.
+-- The rows that can refuse a command that moves or copies nodes in a map in which no group is linked, and those that can refuse a box.
 use Rattle.std.proofs.Common.{◌≡◌, ℕ, List, [], ◌∷◌, refl, ap, ◌∙◌, Option, None}
 use Rattle.std.specs.Prelude.{filter, not, ◌&&◌}
 use Rattle.map_model.specs.Tree.{Whole, is_linked}
 use Rattle.map_model.specs.Below.{Below}
-use Rattle.map_model.specs.Commands.{Command, Settings, Box, Move, Turn, Flip}
+use Rattle.map_model.specs.Commands.{Command, Settings, Box, Copy, Move, Turn, Flip}
 use Rattle.map_model.specs.Replies.{Refusal, ShiftRange}
 use Rattle.map_model.specs.Rows.{first, refuse, at_each, moves_links, motion_of, is_shift_kept, edits, named, all_moved, rows, no_node, repeated, wrong_kind, nested_ids, locked_layer, two_members, two_members_from, reserved_key, no_key, not_linked, nested_link, rotation, flat_plane, plane_misses, apart, not_box, thick, no_vertex, fractional_vertex, too_many_points, point_range, no_volume, too_many_faces, out_of_world, lock_offset, stuck_origin, shift_range}
 use Rattle.map_laws.specs.Unlinked.{Unlinked}
@@ -44,6 +44,9 @@ no_links_moved : (m : Whole) (c : Command) → Unlinked m → filter (is_linked 
 no_links_moved m c u = filter_none (is_linked m) u (all_moved m c)
 
 pub moving_rows_are : MovingRowsLaw
+moving_rows_are b s m (Copy shift ns) is u =
+    rows_by b s m (Copy shift ns) (no_two_members m (Copy shift ns) (over_none m u)) (λ rs. refl) (λ rs. refl)
+    (ap (λ gs. at_each gs (λ g. refuse (moves_links (Copy shift ns) && not (is_shift_kept m (motion_of (Copy shift ns)) g)) (ShiftRange g))) (no_links_moved m (Copy shift ns) u))
 moving_rows_are b s m (Move shift ns) is u =
     rows_by b s m (Move shift ns) (no_two_members m (Move shift ns) (over_none m u)) (λ rs. refl) (λ rs. refl)
     (ap (λ gs. at_each gs (λ g. refuse (moves_links (Move shift ns) && not (is_shift_kept m (motion_of (Move shift ns)) g)) (ShiftRange g))) (no_links_moved m (Move shift ns) u))

@@ -1,15 +1,16 @@
--- The commands that move nodes in space, in maps in which no group is linked. The tests on solids are right.
+-- The commands that move or copy nodes in space, in maps in which no group is linked. The tests on solids are right.
 use Rattle.std.specs.Prelude.{◌≡◌, Bool, true, false, IsTrue, List, [], ◌∷◌, Option, Ok}
 use Rattle.map_model.specs.Tree.{Whole}
 use Rattle.map_model.specs.Shape.{Shape}
 use Rattle.map_model.specs.Below.{Below, IsRight}
-use Rattle.map_model.specs.Commands.{Command, IsGood, Settings, Move, Turn, Flip}
+use Rattle.map_model.specs.Commands.{Command, IsGood, Settings, Copy, Move, Turn, Flip}
 use Rattle.map_model.specs.Replies.{Refusal}
 use Rattle.map_model.specs.Rows.{rows, first, no_node, repeated, wrong_kind, nested_ids, locked_layer, point_range, out_of_world, lock_offset, stuck_origin}
 use Rattle.map_model.specs.Apply.{Applied, apply}
 use Rattle.map_laws.specs.Unlinked.{Unlinked, apply_unlinked}
 
 abbrev pub is_moving_command : Command → Bool
+is_moving_command (Copy shift ns) = true
 is_moving_command (Move shift ns) = true
 is_moving_command (Turn axis quarters about ns) = true
 is_moving_command (Flip axis at ns) = true
@@ -28,7 +29,7 @@ MovingRowsLaw = (b : Below) (s : Settings) (m : Whole) (c : Command) → IsTrue 
 abbrev pub MovingApplyLaw : Type 0
 MovingApplyLaw = (b : Below) (s : Settings) (m : Whole) (c : Command) → IsRight b → IsTrue (is_moving_command c) → IsGood c → Shape m → Unlinked m → apply b s m c ≡ apply_unlinked b s m c
 
--- The map after a command has the shape again, and no linked group: moved brushes are valid, and moved origins are texts.
+-- The map after a command has the shape again, and no linked group: brushes that are moved or copied are valid.
 abbrev pub MovingCommandLaw : Type 0
 MovingCommandLaw = (b : Below) (s : Settings) (m : Whole) (c : Command) (a : Applied) → IsRight b → IsTrue (is_moving_command c) → IsGood c → Shape m → Unlinked m → apply b s m c ≡ Ok a →
     Shape a.map × Unlinked a.map

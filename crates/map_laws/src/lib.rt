@@ -1,7 +1,9 @@
-//! Laws of maps: that the edits of a whole map keep its shape, and so do the commands that are made of them.
+//! Laws of whole maps: what the edits keep, and that a map after a command has the shape of maps again, where no group is linked.
 //!
-//! It has no code that runs. The functions below are empty: each states as its `ensures` a law that is proved in `proofs/`.
-//! A crate whose code makes the changes of a command cites them for the map that comes of it.
+//! A crate whose code makes the change of a command cites them: it shows that its change leads to the map of the definitions, and a law here
+//! says what that map keeps. They cover the commands that change the tree, that move or copy nodes, and that make a box; for those that
+//! change geometry the tests on solids are to be right. There is no code that runs: the functions are empty, and each states a law as its
+//! `ensures`, which is proved in `proofs/`.
 #![tactic(auto)]
 
 ghost use Rattle.map_laws.specs.BoxCommand.{MaterialLaw, BoxRowsLaw, BoxApplyLaw, BoxCommandLaw};
@@ -70,17 +72,17 @@ pub fn tree_command_law()
     ensures { TreeCommandLaw }
 {}
 
-/// Where no group is linked, nine rows can refuse a command that moves nodes.
+/// Where no group is linked, nine rows can refuse a command that moves or copies nodes.
 pub fn moving_rows_law()
     ensures { MovingRowsLaw }
 {}
 
-/// Where no group is linked, a command that moves nodes is its rows, its own changes, pruning and the row of numbers.
+/// Where no group is linked, a command that moves or copies nodes is its rows, its own changes, pruning and the row of numbers.
 pub fn moving_apply_law()
     ensures { MovingApplyLaw }
 {}
 
-/// The commands that move nodes keep the shape of a map in which no group is linked, brushes and all.
+/// The commands that move or copy nodes keep the shape of a map in which no group is linked, and their brushes are valid.
 pub fn moving_command_law()
     ensures { MovingCommandLaw }
 {}
