@@ -1,0 +1,4 @@
+-- Definitions.
+pub mod TreeCommands
+pub mod Material
+pub mod Faults

@@ -1,0 +1,15 @@
+//! The commands of the tree, planned over a map: `delete`, `entity`, `set`, `unset`, `tie`, `untie`, `layer`, `freeze`, `thaw`,
+//! `group`, `ungroup` and `into`.
+//!
+//! [`edit`] gives the first refusal of the one order in which refusals are tried, or else a change that names exactly the
+//! nodes that differ, with the reply. It changes no map. What a row or an edit costs goes by what the command names, and not
+//! by the map. [`rows`] has the rows that other commands share.
+#![tactic(auto)]
+
+mod edit;
+mod fault;
+mod settings;
+
+pub use edit::{Planned, edit};
+pub use fault::OpFault;
+pub use settings::Settings;
