@@ -1,4 +1,6 @@
 -- Definitions.
 pub mod TreeCommands
 pub mod Material
+pub mod Passing
 pub mod Faults
+pub mod Planning

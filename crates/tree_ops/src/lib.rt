@@ -6,10 +6,24 @@
 //! by the map. [`rows`] has the rows that other commands share.
 #![tactic(auto)]
 
-mod edit;
+mod editing;
 mod fault;
+mod gathering;
+mod keys;
+mod kinds;
+mod making;
+mod named;
+mod own;
+mod plan;
+mod planned;
+mod pruning;
+mod refusing;
+mod removal;
+pub mod rows;
 mod settings;
 
-pub use edit::{Planned, edit};
+pub use editing::edit;
 pub use fault::OpFault;
+pub use planned::Planned;
+pub use pruning::prune;
 pub use settings::Settings;

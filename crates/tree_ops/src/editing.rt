@@ -10,17 +10,14 @@ ghost use Rattle.tree_ops.specs.TreeCommands.{is_tree_command};
 ghost use Rattle.tree_ops.specs.Faults.{RefusesRightly};
 
 use crate::fault::OpFault;
+use crate::named::named;
+use crate::plan::plan;
+use crate::planned::Planned;
+use crate::refusing::first_refusal;
 use crate::settings::Settings;
-use cmd_text::{Command, Reply};
+use cmd_text::Command;
 use std::alloc::Global;
-use tree_node::{Change, Map};
-
-/// A change that makes of a map what a command makes of it, and the reply.
-#[derive(Drop)]
-pub struct Planned {
-    pub change: Change,
-    pub reply: Reply,
-}
+use tree_node::Map;
 
 /// Plans a command of the tree: the first refusal of the one order, or a change that names exactly the nodes that differ,
 /// with the reply. The map after the change is one again. Nothing is said where there is no memory for it.
@@ -31,5 +28,9 @@ pub fn edit(alloc: Global, map: &Map, set: &Settings, c: &Command) -> Result<Pla
     ensures sound { IfOk result (λ p. IsMap (swap (whole map.now) p.change)) }
     ensures refused { IfErr result (RefusesRightly set.now (whole map.now) c.now) }
 {
-    Err(OpFault::Memory)
+    map.is_map();
+    let named = named(alloc, c)?;
+    first_refusal(map, c, &named)?;
+    let planned = plan(alloc, map, c, &named)?;
+    Ok(planned)
 }

@@ -1,0 +1,10 @@
+pub mod Climbing
+pub mod Turning
+pub mod RowLoops
+pub mod Numbers
+pub mod FirstRow
+pub mod Tests
+pub mod Outcomes
+pub mod CommandRows
+pub mod Lists
+pub mod KeyTables
