@@ -1,5 +1,5 @@
 -- The rows of a command, from those of the numbers that it names.
-use Rattle.std.proofs.Common.{◌≡◌, ℕ, List, Bool, true, false, not, ◌&&◌, ◌||◌, refl, ap, sym, ◌∙◌}
+use Rattle.std.proofs.Common.{◌≡◌, ℕ, true, false, not, ◌&&◌, ◌||◌, refl, ap, sym}
 use Rattle.std.specs.List.{list_any}
 use Rattle.map_model.specs.Tree.{Whole, lies_beneath}
 use Rattle.map_model.specs.Commands.{Command, Into, Freeze, Thaw, Show, Uv, Touching}

@@ -2,7 +2,7 @@
 use Rattle.std.proofs.Common.{◌≡◌, ℕ, ◌+◌, ◌-◌, ◌<◌, ◌≤◌, List, [], ◌∷◌, Bool, true, false, cond, Option, None, Some, IsTrue, Result, Ok, Err, refl, ap, ap₂, sym, subst, ◌∙◌, ◌&&◌, not, arith, option_map, unwrap_or}
 use Rattle.std.proofs.lemmas.Bool.Decides.{nat_tests}
 use Rattle.std.specs.Prelude.{nat_lt}
-use Rattle.map_model.specs.Tree.{Whole, Node, at, up, is_brush, is_linked, preorder, above, brushes_at, children, container}
+use Rattle.map_model.specs.Tree.{Whole, Node, up, is_brush, is_linked, preorder, above, brushes_at, children, container}
 use Rattle.map_model.specs.Tree.{Entity as PlacedEntity, Group as PlacedGroup}
 use Rattle.map_model.specs.Props.{classname}
 use Rattle.map_model.specs.Edits.{each_in_turn, renew, relist, without, take_out, put_in, put_last, forget, delete, move_all, swap, Changes}

@@ -1,14 +1,14 @@
 -- What comes of a command of the tree, from its rows and what follows them.
-use Rattle.std.proofs.Common.{◌≡◌, ℕ, ◌+◌, ◌-◌, ◌≤◌, List, [], ◌∷◌, Bool, true, false, cond, Option, None, Some, IsTrue, Result, Ok, Err, refl, ap, ap₂, sym, subst, ◌∙◌, ◌<◌}
+use Rattle.std.proofs.Common.{◌≡◌, ℕ, ◌+◌, ◌-◌, ◌≤◌, List, [], Bool, true, false, cond, Option, None, Some, IsTrue, Result, Ok, Err, refl, ap, ap₂, sym, subst, ◌∙◌, ◌<◌}
 use Rattle.std.specs.Prelude.{nat_lt, IsErrAnd, IfErr}
 use Rattle.std.proofs.lemmas.Bool.{ltb-false, ltb-true}
 use Rattle.tree_node.specs.declared.change.Full.{Full}
 use Rattle.map_model.specs.Tree.{Whole, Held, whole, above}
 use Rattle.map_model.specs.Edits.{Changes, swap, each_in_turn}
-use Rattle.map_model.specs.Below.{Below, IsRight}
+use Rattle.map_model.specs.Below.{Below}
 use Rattle.map_model.specs.Commands.{Command, Settings, IsGood}
-use Rattle.map_model.specs.Replies.{Reply, Refusal, Full as TooManyNumbers}
-use Rattle.map_model.specs.Rows.{first, rows, named}
+use Rattle.map_model.specs.Replies.{Refusal, Full as TooManyNumbers}
+use Rattle.map_model.specs.Rows.{first, named}
 use Rattle.map_model.specs.Own.{own}
 use Rattle.map_model.specs.Apply.{Applied, apply, unless, prune, drop_emptied}
 use Rattle.map_model.specs.Promises.{Applies, Refuses}

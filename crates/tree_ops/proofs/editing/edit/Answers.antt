@@ -1,4 +1,3 @@
-use Rattle.std.proofs.Common.{◌≡◌, Ok, ap, sym, ◌∙◌}
 use Rattle.map_model.specs.Tree.{whole}
 use Rattle.map_model.specs.Edits.{swap}
 use Rattle.tree_ops.specs.Faults.{RefusesRightly}

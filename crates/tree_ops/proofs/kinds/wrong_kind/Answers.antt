@@ -3,8 +3,8 @@ use Rattle.map_model.specs.Tree.{whole}
 use Rattle.map_model.specs.Rows.{fits, refuse, at_each}
 use Rattle.tree_ops.specs.Passing.{passes}
 use Rattle.map_model.specs.Replies.{WrongKind}
-use Rattle.std.proofs.Common.{sym, ap, ◌∙◌, Err}
-use Rattle.tree_ops.proofs.RowLoops.{refused_at, passed_one, passed_all, is_twice, not_twice, refused_where, passed_where}
+use Rattle.std.proofs.Common.{ap, ◌∙◌, Err}
+use Rattle.tree_ops.proofs.RowLoops.{refused_at, passed_one, passed_all, refused_where, passed_where}
 use Rattle.tree_ops.proofs.kinds.wrong_kind.Goals as goal
 
 pub loop-id-preserved : goal.loop-id-preserved

@@ -1,5 +1,4 @@
-use Rattle.std.proofs.Common.{ℕ}
-use Rattle.map_model.specs.Tree.{Whole, whole, above}
+use Rattle.map_model.specs.Tree.{whole, above}
 use Rattle.map_model.specs.Edits.{each_in_turn, swap}
 use Rattle.map_model.specs.Apply.{drop_emptied}
 use Rattle.tree_ops.proofs.Turning.{Turning}

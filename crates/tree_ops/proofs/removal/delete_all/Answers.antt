@@ -1,6 +1,5 @@
 use Rattle.map_model.specs.Tree.{whole}
 use Rattle.map_model.specs.Edits.{swap, delete}
-use Rattle.map_model.specs.Own.{untie, ungroup}
 use Rattle.tree_ops.proofs.Turning.{turned_one, turned_all}
 use Rattle.tree_ops.proofs.removal.delete_all.Goals as goal
 

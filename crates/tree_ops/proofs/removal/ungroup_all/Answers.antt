@@ -1,6 +1,6 @@
 use Rattle.map_model.specs.Tree.{whole}
-use Rattle.map_model.specs.Edits.{swap, delete}
-use Rattle.map_model.specs.Own.{untie, ungroup}
+use Rattle.map_model.specs.Edits.{swap}
+use Rattle.map_model.specs.Own.{ungroup}
 use Rattle.tree_ops.proofs.Turning.{turned_one, turned_all}
 use Rattle.tree_ops.proofs.removal.ungroup_all.Goals as goal
 

@@ -2,7 +2,7 @@ use Rattle.map_model.specs.Tree.{whole}
 use Rattle.map_model.specs.Rows.{is_in_frozen}
 use Rattle.map_model.specs.Replies.{LockedLayer}
 use Rattle.std.proofs.Common.{sym, ap, ◌∙◌, Err}
-use Rattle.tree_ops.proofs.RowLoops.{refused_at, passed_one, passed_all, is_twice, not_twice, refused_where, passed_where}
+use Rattle.tree_ops.proofs.RowLoops.{refused_at, passed_one, passed_all}
 use Rattle.tree_ops.proofs.rows.locked_layer.Goals as goal
 
 pub loop-id-preserved : goal.loop-id-preserved

@@ -4,7 +4,7 @@ use Rattle.map_model.specs.Tree.{whole, lies_beneath}
 use Rattle.tree_ops.specs.Passing.{is_place_beneath_it}
 use Rattle.map_model.specs.Replies.{NestedIds}
 use Rattle.std.proofs.Common.{sym, ap, ◌∙◌, Err}
-use Rattle.tree_ops.proofs.RowLoops.{refused_at, passed_one, passed_all, is_twice, not_twice, refused_where, passed_where}
+use Rattle.tree_ops.proofs.RowLoops.{refused_at, passed_one, passed_all}
 use Rattle.tree_ops.proofs.rows.nested_ids.Goals as goal
 
 pub loop-id-preserved : goal.loop-id-preserved

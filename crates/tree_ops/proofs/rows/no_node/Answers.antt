@@ -2,7 +2,7 @@ use Rattle.std.specs.Prelude.{is_none}
 use Rattle.map_model.specs.Tree.{whole, at}
 use Rattle.map_model.specs.Replies.{NoNode}
 use Rattle.std.proofs.Common.{sym, ap, ◌∙◌, Err}
-use Rattle.tree_ops.proofs.RowLoops.{refused_at, passed_one, passed_all, is_twice, not_twice, refused_where, passed_where}
+use Rattle.tree_ops.proofs.RowLoops.{refused_at, passed_one, passed_all}
 use Rattle.tree_ops.proofs.rows.no_node.Goals as goal
 
 pub loop-id-preserved : goal.loop-id-preserved

@@ -1,7 +1,7 @@
 use Rattle.std.specs.Prelude.{nat_lt, count_by, ◌==◌}
 use Rattle.map_model.specs.Replies.{Repeated}
-use Rattle.std.proofs.Common.{sym, ap, ◌∙◌, Err}
-use Rattle.tree_ops.proofs.RowLoops.{refused_at, passed_one, passed_all, is_twice, not_twice, refused_where, passed_where}
+use Rattle.std.proofs.Common.{ap, ◌∙◌, Err}
+use Rattle.tree_ops.proofs.RowLoops.{refused_at, passed_one, passed_all, is_twice, not_twice}
 use Rattle.tree_ops.proofs.rows.repeated.Goals as goal
 
 pub loop-id-preserved : goal.loop-id-preserved
