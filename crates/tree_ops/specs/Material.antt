@@ -1,6 +1,5 @@
 -- The current material.
-use Rattle.std.specs.Prelude.{◌≡◌, ℕ, List, []}
-use Rattle.std.specs.Prelude.{◌⊎◌}
+use Rattle.std.specs.Prelude.{◌≡◌, ◌⊎◌, ℕ, List, []}
 use Rattle.cmd_text.specs.Kept.{IsNameText}
 
 -- Empty at the start, and from then on a name that a line has given.

@@ -11,7 +11,7 @@ use std::alloc::{AllocError, Global};
 use tree_node::{Change, Map};
 
 /// Above each of the numbers, from below, an entity or a group goes that had a child in the map and has none with the change.
-/// A linked group stays.
+/// A linked group stays. After an error the change may be partly pruned, and is to be dropped.
 pub fn prune(
     alloc: Global,
     map: &Map,

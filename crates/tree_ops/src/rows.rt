@@ -11,7 +11,7 @@ use cmd_text::Refusal;
 use map_nodes::NodeId;
 use tree_node::Map;
 
-/// The first of the numbers that no node has.
+/// `NoNode` with the first of the numbers that no node has.
 pub fn no_node(map: &Map, ids: &[NodeId]) -> Result<(), Refusal>
     ensures { result ≡ passes (at_each ids.now (λ n. refuse (is_none (at (whole map.now) n)) (NoNode n))) }
 {
@@ -30,7 +30,7 @@ fn is_absent(map: &Map, id: NodeId) -> bool
     map.get(id).is_none()
 }
 
-/// The first of the numbers that is named twice.
+/// `Repeated` with the first of the numbers that is named twice.
 pub fn repeated(ids: &[NodeId]) -> Result<(), Refusal>
     ensures { result ≡ passes (at_each ids.now (λ n. refuse (nat_lt 1 (count_by (λ k. k == n) ids.now)) (Repeated n))) }
 {
@@ -49,7 +49,7 @@ fn times_named(ids: &[NodeId], id: NodeId) -> usize
     ids.iter().filter(|other| **other == id).count()
 }
 
-/// The first of the nodes that lies beneath another, or has the place beneath it, if a place is given.
+/// `NestedIds` with the first of the nodes that lies beneath another, or has the place beneath it, if a place is given.
 pub fn nested_ids(map: &Map, ids: &[NodeId], place: Option<u32>) -> Result<(), Refusal>
     ensures { result ≡ passes (at_each ids.now (λ n. refuse (list_any (lies_beneath (whole map.now) n) ids.now || is_place_beneath_it (whole map.now) place n) (NestedIds n))) }
 {
@@ -107,7 +107,7 @@ fn is_among(id: NodeId, others: &[NodeId]) -> bool
     others.iter().any(|other| *other == id)
 }
 
-/// The first of the nodes that is a frozen layer or lies in one.
+/// `LockedLayer` with the first of the nodes that is a frozen layer or lies in one.
 pub fn locked_layer(map: &Map, ids: &[NodeId]) -> Result<(), Refusal>
     ensures { result ≡ passes (at_each ids.now (λ n. refuse (is_in_frozen (whole map.now) n) (LockedLayer n))) }
 {
