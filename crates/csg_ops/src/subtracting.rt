@@ -28,7 +28,8 @@ pub fn subtract(alloc: Global, a: &Solid, b: &Solid) -> Result<Vec<Solid>, Subtr
     ensures solids { IfOk result (λ pieces. Every IsSolid pieces.items) }
     ensures fault { IfErr result (IsNoDifferenceFor a.now b.now) }
 {
-    let Some(blocks) = carve(alloc, a.block(alloc)?, b.sides())? else {
+    let block = a.block(alloc)?;
+    let Some(blocks) = carve(alloc, block, b.sides())? else {
         return Err(SubtractFault::Apart);
     };
     Ok(solids_of(alloc, blocks)?)

@@ -1,17 +1,23 @@
+use Rattle.std.proofs.Common.{◌++◌, take, Some, None, sym, subst}
+use Rattle.solid_brush.specs.Sides.{HaveTags}
+use Rattle.solid_brush.specs.Blocks.{IsLeft}
+use Rattle.csg_ops.specs.Cuts.{all_sides}
 use Rattle.csg_ops.proofs.Common.{common_at_start, next_tags, next_trimmed, first_apart, all_common}
 use Rattle.csg_ops.proofs.intersecting.common.Goals as goal
 
 pub loop-k-init : goal.loop-k-init
-loop-k-init c = ?
+loop-k-init c = common_at_start c.args.list.now c.index-list-0.result c.in_ok-block.block c.requires.some c.index-list-0.is c.in_ok-block.ensures.trimmed
 
 pub meet-requires : goal.meet-requires
-meet-requires c = ?
+meet-requires c = record { tags = subst (λ s. HaveTags (c.loop-k.block ++ s)) (sym c.sides.ensures.sides) (next_tags c.args.list.now c.loop-k.k c.index-list-k.result c.loop-k-test.true c.index-list-k.is c.loop-k.block c.loop-k.invariant c.requires.tags) }
 
 pub loop-k-preserved : goal.loop-k-preserved
-loop-k-preserved c = ?
+loop-k-preserved c = next_trimmed c.args.list.now c.loop-k.k c.index-list-k.result c.loop-k-test.true c.index-list-k.is c.loop-k.block c.loop-k.invariant c.in-Some.met
+    (subst (IsLeft ((all_sides (take c.loop-k.k c.args.list.now)) ++ c.index-list-k.result)) c.in-Some.is (subst (λ s. IsLeft ((all_sides (take c.loop-k.k c.args.list.now)) ++ s) c.in_ok-met.field-0) c.sides.ensures.sides (c.in_ok-met.ensures.further (all_sides (take c.loop-k.k c.args.list.now)) c.loop-k.invariant)))
 
 pub returns-in_default-clause-fault : goal.returns-in_default-clause-fault
-returns-in_default-clause-fault c = ?
+returns-in_default-clause-fault c = first_apart c.args.list.now c.loop-k.k c.index-list-k.result c.loop-k-test.true c.index-list-k.is c.loop-k.block c.loop-k.invariant
+    (subst (IsLeft ((all_sides (take c.loop-k.k c.args.list.now)) ++ c.index-list-k.result)) c.in_default.is (subst (λ s. IsLeft ((all_sides (take c.loop-k.k c.args.list.now)) ++ s) c.in_ok-met.field-0) c.sides.ensures.sides (c.in_ok-met.ensures.further (all_sides (take c.loop-k.k c.args.list.now)) c.loop-k.invariant)))
 
 pub returns-clause-common : goal.returns-clause-common
-returns-clause-common c = ?
+returns-clause-common c = all_common c.args.list.now c.loop-k.k c.loop-k.block c.loop-k-test.false c.loop-k.invariant
