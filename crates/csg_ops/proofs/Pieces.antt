@@ -1,5 +1,5 @@
 -- The pieces that are cut off a block, one side after another.
-use Rattle.std.proofs.Common.{◌≡◌, ℕ, zero, suc, ◌+◌, ◌^◌, ◌<◌, ◌≤◌, Bool, true, false, List, [], ◌∷◌, ◌++◌, length, map, take, drop, get_or, Option, None, append_assoc, append-nil, add-one, refl, sym, ap, subst, ◌∙◌, arith}
+use Rattle.std.proofs.Common.{◌≡◌, ℕ, zero, suc, ◌+◌, ◌^◌, ◌<◌, ◌≤◌, Bool, true, false, List, [], ◌∷◌, ◌++◌, length, map, take, drop, get_or, Option, None, Some, append_assoc, append-nil, add-one, refl, sym, ap, subst, ◌∙◌, arith}
 use Rattle.std.proofs.lemmas.List.{take_all}
 use Rattle.std.proofs.Math.Seq.{drop-cons}
 use Rattle.algebra.specs.Members.{◌∈◌, here, there, Every}
@@ -13,7 +13,7 @@ use Rattle.solid_brush.specs.declared.side.Side.{Side}
 use Rattle.solid_brush.specs.Sides.{bounds, half_spaces, HaveTags}
 use Rattle.solid_brush.specs.Blocks.{IsEmpty, IsTrimmedTo, IsCut}
 use Rattle.solid_brush.proofs.Blocks.{trimmed_further, empty_further}
-use Rattle.csg_ops.specs.Cuts.{reversed, HasPieces}
+use Rattle.csg_ops.specs.Cuts.{reversed, HasPieces, IsCarved}
 
 -- The half-space of a side that is seen from its other side.
 pub turned : (s : Side) → bounds (reversed s) ≡ reverse (bounds s)
@@ -91,3 +91,15 @@ remainder_of a b solids p =
     let o = p.common.at in let i = p.common.inside in
     pieces Side bounds reversed a b solids o turned (λ f m. p.proper f (spaces_left a b f m)) (λ f m. p.proper f (spaces_right a b f m))
     (record { weight = i.weight; all = λ f m. i.all f (spaces_left a b f m) }) (record { weight = i.weight; all = λ f m. i.all f (spaces_right a b f m) }) p.pieces_are
+
+-- What a copy of the block is cut to by the reversed side.
+pub cut_of : (left copy piece : List Side) (turned side : Side) (answer : Bool) → copy ≡ left → turned ≡ reversed side → IsCut copy turned piece answer → IsCut left (reversed side) piece answer
+cut_of left copy piece turned side answer q e c = subst (λ l. IsCut l (reversed side) piece answer) q (subst (λ s. IsCut copy s piece answer) e c)
+
+-- ---- what is told of the brushes
+pub has_pieces : (first now sides b : List Side) (carved : Option (List (List Side))) (blocks solids : List (List Side)) → first ≡ now → sides ≡ b → IsCarved first sides carved → carved ≡ Some blocks → solids ≡ blocks → HasPieces now b solids
+has_pieces first now sides b carved blocks solids q r t e s =
+    subst (HasPieces now b) (sym s) (subst (IsCarved now b) e (subst (λ l. IsCarved l b carved) q (subst (λ l. IsCarved first l carved) r t)))
+
+pub none_carved : (first now sides b : List Side) (carved : Option (List (List Side))) → first ≡ now → sides ≡ b → IsCarved first sides carved → carved ≡ None → IsEmpty (now ++ b)
+none_carved first now sides b carved q r t e = subst (IsCarved now b) e (subst (λ l. IsCarved l b carved) q (subst (λ l. IsCarved first l carved) r t))

@@ -16,7 +16,8 @@ pub(crate) fn solids_of(alloc: Global, blocks: Vec<Block>) -> Result<Vec<Solid>,
 {
     let mut solids = Vec::new(alloc);
     for block in blocks {
-        solids.push(block.solid(alloc)?)?;
+        let solid = block.solid(alloc)?;
+        solids.push(solid)?;
     }
     Ok(solids)
 }
