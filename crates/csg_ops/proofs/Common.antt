@@ -1,11 +1,11 @@
 -- What several brushes have in common.
-use Rattle.std.proofs.Common.{◌≡◌, ℕ, zero, suc, ◌+◌, ◌^◌, ◌<◌, ◌≤◌, List, [], ◌∷◌, ◌++◌, length, take, drop, get_or, Option, None, append_assoc, append-nil, add-one, refl, sym, ap, subst, ◌∙◌, arith}
+use Rattle.std.proofs.Common.{◌≡◌, ℕ, zero, suc, ◌+◌, ◌<◌, ◌≤◌, List, [], ◌∷◌, ◌++◌, length, take, drop, get_or, append_assoc, append-nil, add-one, refl, sym, ap, subst, ◌∙◌, arith}
 use Rattle.std.proofs.lemmas.List.{take_all}
-use Rattle.algebra.specs.Members.{◌∈◌, here, there, Every}
+use Rattle.algebra.specs.Members.{◌∈◌, here, there}
 use Rattle.trim_laws.specs.Trim.{TrimsFaces, no_faces, keeps_face, drops_face}
 use Rattle.solid_brush.specs.declared.side.Side.{Side}
 use Rattle.solid_brush.specs.Sides.{bounds, DistinctTags, no_sides, one_more_side, HaveTags}
-use Rattle.solid_brush.specs.Blocks.{IsEmpty, IsTrimmedTo, IsLeft}
+use Rattle.solid_brush.specs.Blocks.{IsEmpty, IsTrimmedTo}
 use Rattle.csg_ops.specs.Cuts.{all_sides, IsFirstApart}
 
 -- ---- tags of what is trimmed, and of what comes behind it

@@ -1,7 +1,7 @@
 -- The halves of a split brush.
 use Rattle.std.proofs.Common.{◌≡◌, ◌<◌, ◌≤◌, ℕ, List, [], ◌∷◌, ◌++◌, length, arith}
 use Rattle.std.proofs.lemmas.List.{length-map}
-use Rattle.algebra.specs.Members.{◌∈◌, here, there, Every}
+use Rattle.algebra.specs.Members.{here, there, Every}
 use Rattle.algebra.proofs.Members.{each_of_more, each_of_none}
 use Rattle.solid_brush.specs.declared.side.Side.{Side}
 use Rattle.solid_brush.specs.declared.meet_fault.MeetFault.{MeetFault}

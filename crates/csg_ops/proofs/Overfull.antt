@@ -1,14 +1,14 @@
 -- Blocks as brushes, the first with too many faces refused.
-use Rattle.std.proofs.Common.{◌≡◌, ℕ, zero, suc, ◌+◌, ◌<◌, ◌≤◌, List, [], ◌∷◌, ◌++◌, length, take, drop, get_or, add-one, ap, subst, sym, ◌∙◌, arith}
+use Rattle.std.proofs.Common.{◌≡◌, ℕ, zero, suc, ◌<◌, List, [], ◌∷◌, ◌++◌, length, take, drop, get_or, add-one, ap, subst, sym, ◌∙◌, arith}
 use Rattle.std.proofs.lemmas.List.{take_all, length_push}
-use Rattle.algebra.specs.Members.{◌∈◌, here, there, Every}
+use Rattle.algebra.specs.Members.{here, there, Every}
 use Rattle.algebra.proofs.Members.{each_of_more, each_of_none}
 use Rattle.solid_brush.specs.declared.side.Side.{Side}
 use Rattle.solid_brush.specs.declared.meet_fault.MeetFault.{MeetFault}
 use Rattle.solid_brush.specs.declared.meet_fault.MeetFault.TheVariants.{TooManyFaces as Overfull, Memory as NoMemory}
 use Rattle.solid_brush.specs.Sides.{IsSolid}
 use Rattle.solid_brush.specs.Blocks.{IsTrimmedTo, IsOverfull}
-use Rattle.csg_ops.specs.Faults.{IsFirstOverfull, overfull, later_overfull, IsOneOverfull, intersect_fault_of, subtract_fault_of}
+use Rattle.csg_ops.specs.Faults.{overfull, later_overfull, IsOneOverfull, intersect_fault_of, subtract_fault_of}
 use Rattle.csg_ops.specs.Cuts.{all_sides, IsNoIntersectionFor, HasPieces, IsNoDifferenceFor}
 use Rattle.csg_ops.proofs.Halving.{few_of_solid}
 

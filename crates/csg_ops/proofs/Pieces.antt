@@ -1,16 +1,14 @@
 -- The pieces that are cut off a block, one side after another.
-use Rattle.std.proofs.Common.{◌≡◌, ℕ, zero, suc, ◌+◌, ◌^◌, ◌<◌, ◌≤◌, Bool, true, false, List, [], ◌∷◌, ◌++◌, length, map, take, drop, get_or, Option, None, Some, append_assoc, append-nil, add-one, refl, sym, ap, subst, ◌∙◌, arith}
+use Rattle.std.proofs.Common.{◌≡◌, ℕ, zero, suc, ◌+◌, ◌<◌, ◌≤◌, Bool, true, false, List, [], ◌∷◌, ◌++◌, length, map, take, drop, get_or, Option, None, Some, append_assoc, append-nil, add-one, refl, sym, ap, subst, ◌∙◌, arith}
 use Rattle.std.proofs.lemmas.List.{take_all}
-use Rattle.std.proofs.Math.Seq.{drop-cons}
-use Rattle.algebra.specs.Members.{◌∈◌, here, there, Every}
+use Rattle.algebra.specs.Members.{◌∈◌, here, there}
 use Rattle.algebra.specs.Space.{HalfSpace, reverse}
 use Rattle.algebra.proofs.Identities.{through-swap}
-use Rattle.trim_laws.specs.Solid.{IsInside}
-use Rattle.exact_geom.specs.Planes.{vector, half_space}
+use Rattle.exact_geom.specs.Planes.{vector}
 use Rattle.piece_laws.specs.Pieces.{IsTrimOf, AreTrimsOf, no_lists, one_solid, one_empty, piece_lists, ArePieces, Remainder}
 use Rattle.piece_laws.proofs.Faces.{pieces}
 use Rattle.solid_brush.specs.declared.side.Side.{Side}
-use Rattle.solid_brush.specs.Sides.{bounds, half_spaces, HaveTags}
+use Rattle.solid_brush.specs.Sides.{bounds, half_spaces}
 use Rattle.solid_brush.specs.Blocks.{IsEmpty, IsTrimmedTo, IsCut}
 use Rattle.solid_brush.proofs.Blocks.{trimmed_further, empty_further}
 use Rattle.csg_ops.specs.Cuts.{reversed, HasPieces, IsCarved}

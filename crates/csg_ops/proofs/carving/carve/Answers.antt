@@ -1,8 +1,7 @@
-use Rattle.std.proofs.Common.{◌≡◌, ◌+◌, ◌<◌, ◌++◌, ◌∷◌, [], take, append-nil, refl, sym, subst, ◌∙◌}
+use Rattle.std.proofs.Common.{◌≡◌, ◌+◌, ◌<◌, append-nil, sym, subst}
 use Rattle.algebra.specs.Members.{Every}
-use Rattle.solid_brush.specs.Blocks.{IsTrimmedTo, IsCut}
+use Rattle.solid_brush.specs.Blocks.{IsTrimmedTo}
 use Rattle.solid_brush.proofs.Meeting.{tag_is_new, tag_is_small, met_more, none_met}
-use Rattle.csg_ops.specs.Cuts.{reversed}
 use Rattle.csg_ops.proofs.Pieces.{HasSoFar, none_so_far, with_piece, without_piece, all_pieces, cut_of}
 use Rattle.csg_ops.proofs.carving.carve.Goals as goal
 use Rattle.csg_ops.proofs.carving.carve.Goals.{then-branch+in_ok-push, else-branch}

@@ -1,4 +1,4 @@
-use Rattle.std.proofs.Common.{◌++◌, take, Some, None, sym, subst}
+use Rattle.std.proofs.Common.{◌++◌, take, sym, subst}
 use Rattle.solid_brush.specs.Sides.{HaveTags}
 use Rattle.solid_brush.specs.Blocks.{IsLeft}
 use Rattle.csg_ops.specs.Cuts.{all_sides}
