@@ -1,6 +1,6 @@
 -- Points of a face that is carried with lock keep their texture coordinates.
-use Rattle.std.proofs.Common.{◌≡◌, List, [], ◌∷◌, ap, sym, ◌∙◌, refl, true, ℤ, pos, ◌+ℤ◌, ◌-ℤ◌, ◌*ℤ◌, Some}
-use Rattle.algebra.specs.Space.{Vector, Homogeneous, dot, plus, scale}
+use Rattle.std.proofs.Common.{◌≡◌, [], ◌∷◌, ap, sym, ◌∙◌, true, ℤ, pos, ◌+ℤ◌, ◌-ℤ◌, ◌*ℤ◌, Some}
+use Rattle.algebra.specs.Space.{Vector, Homogeneous, dot, scale}
 use Rattle.algebra.proofs.Expr.{read}
 use Rattle.algebra.proofs.Ring.{ring}
 use Rattle.algebra.proofs.Orders.{eq_by}
@@ -17,7 +17,7 @@ use Rattle.uv_lock.specs.Coordinates.{coordinate_along, coordinates}
 use Rattle.uv_lock.specs.Fractions.{fraction}
 use Rattle.uv_lock.specs.Units.{offset_unit}
 use Rattle.uv_lock.proofs.Locks.{turned_at}
-use Rattle.lock_laws.proofs.Steps.{mapped, moved_tex, Locked, locked}
+use Rattle.lock_laws.proofs.Steps.{mapped, Locked, locked}
 
 -- how far a moved point is along the turned axis
 along_moved : (r : Motion) (axis : Vector) (p : Homogeneous) → IsTurn r.matrix → dot (moved_at r p).vector (turned r.matrix axis) ≡ dot p.vector axis +ℤ p.weight *ℤ dot r.shift (turned r.matrix axis)

@@ -1,8 +1,5 @@
 -- Faces that are carried by the motion that changes nothing, and by a way back.
-use Rattle.std.proofs.Common.{◌≡◌, ◌≢◌, List, [], ◌∷◌, ap, sym, ◌∙◌, refl, ℕ, ◌<◌, Bool, true, false, cond, ℤ, pos, ◌-ℤ◌, ◌*ℤ◌, unsigned_abs, Some, option_map}
-use Rattle.std.specs.Ordering.{int_eq}
-use Rattle.std.proofs.lemmas.Bool.{true≢false}
-use Rattle.std.proofs.lemmas.Bool.Decides.{Decides-int_eq}
+use Rattle.std.proofs.Common.{◌≡◌, [], ◌∷◌, ap, sym, ◌∙◌, refl, ◌<◌, true, ℤ, pos, ◌-ℤ◌, ◌*ℤ◌, unsigned_abs, Some, option_map}
 use Rattle.algebra.specs.Space.{Vector, dot}
 use Rattle.algebra.proofs.Expr.{read}
 use Rattle.algebra.proofs.Ring.{ring}
@@ -18,11 +15,11 @@ use Rattle.uv_lock.specs.declared.face.Face.{Face}
 use Rattle.uv_lock.specs.declared.texture.Tex.{Tex}
 use Rattle.uv_lock.specs.declared.texture.Tex.TheVariants.{Standard, Valve}
 use Rattle.uv_lock.specs.declared.texture.ValveTex.{ValveTex}
-use Rattle.uv_lock.specs.Carry.{count_at, axis_vector, axis_at, scale_of, kept_offset, kept_product, offset_limit, turned_axes, carried_tex, carry}
-use Rattle.uv_lock.specs.Units.{axis_unit, offset_unit}
+use Rattle.uv_lock.specs.Carry.{count_at, scale_of, kept_offset, kept_product, offset_limit, turned_axes, carried_tex, carry}
+use Rattle.uv_lock.specs.Units.{offset_unit}
 use Rattle.uv_lock.proofs.Locks.{both_kept}
 use Rattle.uv_lock.proofs.Offsets.{quotient_there, scale_not_zero}
-use Rattle.lock_laws.specs.Laws.{HasLimits, IsInLimits}
+use Rattle.lock_laws.specs.Laws.{IsInLimits}
 use Rattle.lock_laws.proofs.Carrying.{carry_after}
 
 dot_none : (v : Vector) → dot (vector_at (pos 0) (pos 0) (pos 0)) v ≡ pos 0

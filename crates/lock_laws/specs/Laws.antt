@@ -1,5 +1,5 @@
 -- What is asserted of faces that are carried with lock, and of the numbers that are computed for them.
-use Rattle.std.specs.Prelude.{◌≡◌, ◌≢◌, ◌↔◌, ℕ, ◌<◌, true, IsTrue, List, ◌∷◌, [], Some, ℤ, pos, ◌*ℤ◌, ◌≤ℤ◌, unsigned_abs}
+use Rattle.std.specs.Prelude.{◌≡◌, ◌≢◌, ◌↔◌, ℕ, ◌<◌, true, IsTrue, ◌∷◌, [], Some, ℤ, pos, ◌*ℤ◌, ◌≤ℤ◌, unsigned_abs}
 use Rattle.algebra.specs.Space.{Vector, Homogeneous}
 use Rattle.exact_geom.specs.Planes.{parts}
 use Rattle.orient48.specs.Motions.{Motion, is_signed_permutation, after, back, moved_at}

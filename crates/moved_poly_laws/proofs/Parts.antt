@@ -1,6 +1,6 @@
 -- What a motion keeps of a polyhedron, part by part.
-use Rattle.std.proofs.Common.{◌≡◌, ◌∙◌, List, [], ◌∷◌, ℕ, ap, sym, subst, ℤ, pos, ◌+ℤ◌, ◌*ℤ◌}
-use Rattle.algebra.specs.Members.{◌∈◌, Every}
+use Rattle.std.proofs.Common.{◌≡◌, ◌∙◌, List, [], ◌∷◌, ap, sym, subst, ℤ, pos, ◌+ℤ◌, ◌*ℤ◌}
+use Rattle.algebra.specs.Members.{◌∈◌}
 use Rattle.algebra.specs.Space.{Vector, Homogeneous, HalfSpace, SamePoint, SameHalfSpace, dot, plus, scale, side}
 use Rattle.algebra.proofs.Expr.{read}
 use Rattle.algebra.proofs.Ring.{ring}
@@ -10,12 +10,12 @@ use Rattle.orient48.specs.Laws.{IsTurn}
 use Rattle.orient48.specs.Motions.{Motion, back, moved_half, moved_at}
 use Rattle.trim_laws.specs.Trim.{Bears}
 use Rattle.vertex_laws.specs.Vertex.{IsVertex}
-use Rattle.poly_laws.specs.Links.{Links, HasVertex, HasFace, VertexSlot, FaceSlot}
+use Rattle.poly_laws.specs.Links.{Links, VertexSlot, FaceSlot}
 use Rattle.poly_laws.specs.Stands.{Neat, StandsFor}
 use Rattle.moved_laws.specs.Moved.{moved_list}
-use Rattle.moved_laws.proofs.Corners.{vertex_onto, vertex_was}
+use Rattle.moved_laws.proofs.Corners.{vertex_was}
 use Rattle.moved_laws.proofs.Halves.{each_point, half_back, point_back, side_moved}
-use Rattle.moved_laws.proofs.Points.{among_moved, each_moved, bounded_onto, proper_onto}
+use Rattle.moved_laws.proofs.Points.{each_moved, bounded_onto, proper_onto}
 use Rattle.moved_laws.proofs.Trimming.{bears_onto, same_from}
 use Rattle.moved_poly_laws.specs.Moved.{moved_links}
 

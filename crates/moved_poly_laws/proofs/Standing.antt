@@ -1,5 +1,5 @@
 -- Polyhedra that a motion moves stand for the moved list.
-use Rattle.std.proofs.Common.{◌≡◌, ◌∙◌, List, ℕ, IsTrue, true, false, ap, sym, subst, pos}
+use Rattle.std.proofs.Common.{◌≡◌, ◌∙◌, List, ℕ, true, false, ap, sym, subst, pos}
 use Rattle.algebra.specs.Space.{HalfSpace, side}
 use Rattle.orient48.specs.Laws.{IsTurn}
 use Rattle.orient48.specs.Motions.{Motion, is_flip, moved_half, moved_at}
