@@ -1,0 +1,3 @@
+pub mod Tights
+pub mod Lists
+pub mod Steps
