@@ -1,6 +1,6 @@
 //! The kinds of cases.
 
-use crate::{arenas, documents, hulls, maps, numbers, planes, solids, tokens, vertices, words};
+use crate::{documents, hulls, maps, numbers, planes, solids, tokens, vertices, words};
 use case_text::{Answers, Case, CaseFault, Texts, spelled_bytes};
 use cmd_text::read_line;
 use fixed_num::{read_micro, read_nano, read_pico, read_wide};
@@ -154,9 +154,6 @@ impl Answers for Parts {
     ) -> Result<(), CaseFault> {
         if let Some(table) = Table::named(case.kind()) {
             return add_table(alloc, table, case, texts, out);
-        }
-        if case.kind() == "arena" {
-            return arenas::answer(alloc, case, out);
         }
         case.add_to(out)?;
         match case.kind() {

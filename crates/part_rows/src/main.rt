@@ -4,7 +4,6 @@
 //! thing that is asked. The answers that are wanted were worked out apart from the program.
 #![tactic(auto)]
 
-mod arenas;
 mod documents;
 mod hulls;
 mod kinds;
