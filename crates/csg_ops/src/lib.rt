@@ -1,9 +1,9 @@
-//! Brushes cut into others: split, intersected, subtracted, hollowed.
+//! Brushes cut into others: split, intersected, subtracted.
 //!
 //! Everything is exact. The two halves of a split brush are what lies behind the plane and what lies in front of it; the
 //! intersection of brushes has exactly the points that lie in all of them. The pieces of a brush without another cover exactly the
-//! remainder, and meet only in their boundaries; so do the walls of a hollowed box. A result keeps the planes that it needs with
-//! their tags. What is left of a brush is cut by one side after another, so that no brush is built anew.
+//! remainder, and meet only in their boundaries. A result keeps the planes that it needs with their tags. What is left of a brush
+//! is cut by one side after another, so that no brush is built anew.
 #![tactic(auto)]
 
 mod carving;
