@@ -219,3 +219,14 @@ keeps_new map is_map = record {
   slots_behind = λ c i. elim i [ ];
   slots_ahead = λ c i. elim i [ ];
 }
+
+-- A change that was swapped in leads back. ------------------------------------------------------------------------------------------------
+
+pub leads_back : (before after : Held) (c d : Changes) → Swapped before after c d → Tight (whole before) c → IsMap (swap (whole before) c) → HasSlots before c → LeadsBack after d before
+leads_back before after c d swapped tight is_map slots = record {
+  back = swapped.back;
+  tight = subst (λ m. Tight m d) (sym swapped.now) (d_tight before after c d swapped tight);
+  is_map = subst IsMap (sym swapped.now) is_map;
+  has_slots = d_slots before after c d swapped slots;
+  no_fewer = no_fewer _ _ swapped.slots;
+}

@@ -1,0 +1,9 @@
+pub mod Lists
+pub mod SavedParts
+pub mod Unlinked
+pub mod JudgedFaces
+pub mod Kept
+pub mod NoLinks
+pub mod ReadOne
+pub mod Placed
+pub mod RingWalk

@@ -1,0 +1,6 @@
+pub mod Promises
+pub mod Ids
+pub mod Saving
+pub mod Kinds
+pub mod Judging
+pub mod Passes

@@ -1,0 +1,9 @@
+pub mod FaceLoops
+pub mod Lines
+pub mod Numbers
+pub mod BrushWords
+pub mod States
+pub mod WhichWords
+pub mod ShowRows
+pub mod Arms
+pub mod Serving

@@ -1,0 +1,5 @@
+pub mod Lines
+pub mod Brushes
+pub mod Built
+pub mod Sitting
+pub mod Words
