@@ -20,7 +20,8 @@ use std::alloc::Global;
 use tree_node::Map;
 
 /// Plans a command of the tree: the first refusal of the one order, or a change that names exactly the nodes that differ,
-/// with the reply. The map after the change is one again. Nothing is said where there is no memory for it.
+/// with the reply. The map after the change is one again. The command is one of the twelve of this crate, as a line of a
+/// script reads. Nothing is said where there is no memory for it.
 pub fn edit(alloc: Global, map: &Map, set: &Settings, c: &Command) -> Result<Planned, OpFault>
     requires own { IsTrue (is_tree_command c.now) }
     requires good { IsGood c.now }

@@ -2,8 +2,8 @@
 //! `group`, `ungroup` and `into`.
 //!
 //! [`edit`] gives the first refusal of the one order in which refusals are tried, or else a change that names exactly the
-//! nodes that differ, with the reply. It changes no map. What a row or an edit costs goes by what the command names, and not
-//! by the map. [`rows`] has the rows that other commands share.
+//! nodes that differ, with the reply. It changes no map. What a row costs goes by what the command names, and not by the map;
+//! an edit also copies the nodes that it changes, with their lists of children. [`rows`] has the rows that other commands share.
 #![tactic(auto)]
 
 mod editing;

@@ -3,7 +3,7 @@
 //! A `Session` answers one line after another. Contracts see it as a state of a machine: a list of whole maps, a place among
 //! them, and the settings; [`Session::step`] is exactly a step of that machine, or says that it wants memory and leaves the
 //! state. `specs/Built` says which words are built so far; every other command is refused as not built. The listings of
-//! `show` and `tree` are exact texts, and take time in proportion to what is listed.
+//! `show` and `tree` are exact texts.
 #![tactic(auto)]
 
 mod answer;

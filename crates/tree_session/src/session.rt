@@ -68,8 +68,8 @@ impl Session {
     }
 
     /// Answers a line, without its line feed, and does what it says. A line is answered as the machine answers it, or by want
-    /// of memory, which leaves everything as it was. A silent line, a line that is refused before its command is known, and
-    /// `lock`, `undo` and `redo` never want memory.
+    /// of memory, which leaves everything as it was. A silent line, a line that doesn't read as a command, and `lock`,
+    /// `undo` and `redo` never want memory.
     pub fn step(&mut self, alloc: Global, line: &[u8]) -> Answer
         ensures { Answers (state_of self.old) line.now (answer_of result) (state_of self.new) }
     {

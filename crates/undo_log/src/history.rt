@@ -49,7 +49,8 @@ impl History {
         self.changes.reserve(1)
     }
 
-    /// Adds a change that leads back to the map before. What could be redone is dropped. It takes no memory.
+    /// Adds a change that leads back to the map before, for which there is room. What could be redone is dropped. It takes no
+    /// memory.
     pub fn add(&mut self, c: Change)
         requires { 1 ≤ self.old.room }
         ensures records { self.new.records ≡ added c self.old.records }
@@ -60,7 +61,8 @@ impl History {
         self.place += 1;
     }
 
-    /// Makes the map the one before. `false` exactly at the first map, with nothing changed. It takes no memory.
+    /// Makes the map, which is the one that the history stands for, the one before. `false` exactly at the first map, with
+    /// nothing changed. It takes no memory.
     pub fn undo(&mut self, map: &mut Map) -> bool
         requires { Keeps self.old.records map.old }
         ensures back { OnTrue result (GoesBack self.old.records map.old self.new.records map.new) }
@@ -75,7 +77,8 @@ impl History {
         true
     }
 
-    /// Makes the map the one after. `false` exactly at the last map, with nothing changed. It takes no memory.
+    /// Makes the map, which is the one that the history stands for, the one after. `false` exactly at the last map, with
+    /// nothing changed. It takes no memory.
     pub fn redo(&mut self, map: &mut Map) -> bool
         requires { Keeps self.old.records map.old }
         ensures on { OnTrue result (GoesOn self.old.records map.old self.new.records map.new) }
