@@ -4,6 +4,5 @@ pub mod Numbers
 pub mod BrushWords
 pub mod States
 pub mod WhichWords
-pub mod ShowRows
 pub mod Arms
 pub mod Serving
