@@ -11,7 +11,7 @@ runs=${1:-5}
 ws=$out/ws_text
 mkdir -p "$ws/crates/text_speed/src"
 cp "$top/HANDLES" "$ws/"
-for crate in algebra exact_geom fixed_num uv_lock map_lex map_text map_write; do
+for crate in algebra exact_geom fixed_num orient48 uv_lock map_lex map_text map_write; do
     mkdir -p "$ws/crates/$crate"
     rm -rf "$ws/crates/$crate/"{src,specs,proofs}
     for part in src specs proofs; do
@@ -20,7 +20,7 @@ for crate in algebra exact_geom fixed_num uv_lock map_lex map_text map_write; do
 done
 # The program's text stands here under another ending, so that no gate takes it for a part of the product.
 cp "$here/text_main.rt.txt" "$ws/crates/text_speed/src/main.rt"
-grep -E '^(algebra|exact_geom|fixed_num|uv_lock|map_lex|map_text|map_write):' "$top/crates.txt" > "$ws/crates.txt"
+grep -E '^(algebra|exact_geom|fixed_num|orient48|uv_lock|map_lex|map_text|map_write):' "$top/crates.txt" > "$ws/crates.txt"
 echo 'text_speed: map_text map_write exact_geom fixed_num uv_lock map_lex algebra' >> "$ws/crates.txt"
 [ -d "$ws/.git" ] || git init -q "$ws"
 (cd "$ws/crates/text_speed" && rt run 2>&1 | grep '^logic=') || true
