@@ -15,7 +15,7 @@ use Rattle.uv_lock.specs.declared.texture.Format.TheVariants.{Standard, Valve}
 use Rattle.map_report.specs.declared.note.Note.{Note}
 use Rattle.map_report.specs.declared.note.Note.TheVariants as note
 use Rattle.map_report.specs.declared.fault.MapFault.{MapFault}
-use Rattle.map_report.specs.declared.fault.MapFault.TheVariants.{Read, NoWorld, Full}
+use Rattle.map_report.specs.declared.fault.MapFault.TheVariants.{Read, NoWorld, NotBuilt, Full}
 use Rattle.map_report.specs.declared.summary.Summary.{Summary}
 use Rattle.map_report.specs.declared.summary.Summary.TheVariants as summary
 
@@ -67,6 +67,7 @@ read_words Memory = words [] []
 abbrev pub fault_words : MapFault → Words
 fault_words (Read fault) = read_words fault
 fault_words NoWorld = words (codes "map no-world") []
+fault_words NotBuilt = words (codes "map not-built") []
 fault_words (Full count) = words (codes "map full") (decimal count ∷ [])
 
 abbrev pub format_name : Format → List ℕ

@@ -9,6 +9,8 @@ pub enum MapFault {
     Read(ReadFault),
     /// There is no entity, or the first isn't the world.
     NoWorld,
+    /// A group names a link set, or an entity protects keys. Neither is read yet.
+    NotBuilt,
     /// So many numbers would be drawn, which are too many.
     Full(u64),
 }

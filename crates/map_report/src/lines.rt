@@ -117,6 +117,7 @@ fn fault_row(fault: MapFault) -> Line
     match fault {
         MapFault::Read(fault) => read_row(fault),
         MapFault::NoWorld => Line::bare(b"map no-world"),
+        MapFault::NotBuilt => Line::bare(b"map not-built"),
         MapFault::Full(count) => Line::of(b"map full", [Some(Field::Number(count)), None, None]),
     }
 }
