@@ -16,7 +16,7 @@ def unspelled(text):
             match = re.fullmatch(rb'\{(\d+)\}(?:\(([^)]*)\)|([^(]))(.*)', part, re.S)
             if not match:
                 raise NoCase('no spelling of bytes', part)
-            found += [(match[3] if match[2] is None else match[2]) * int(match[1]), match[4]]
+            found += [(match[3] if match[2] is None else match[2].replace(b';', b'\n')) * int(match[1]), match[4]]
         elif part:
             if not re.match(rb'[0-9A-Fa-f]{2}', part):
                 raise NoCase('no spelling of bytes', part)

@@ -24,7 +24,7 @@ CASES[b'run'] = run
 
 # How the lines of a case begin
 PARTS = (b'#', b'>', b'|', b'pieces: ', b'vault fails: ', b'script fails: ', b'replies fail: ', b'before: ', b'behind: ', b'limit: ',
-         b'places: ', b'retag: ', b'line ')
+         b'places: ', b'retag: ', b'cuts: ', b'line ')
 
 
 def answered(text, texts):

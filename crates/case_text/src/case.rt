@@ -24,6 +24,7 @@ fn is_field(line: &str) -> bool {
         || line.starts_with("limit: ")
         || line.starts_with("places: ")
         || line.starts_with("retag: ")
+        || line.starts_with("cuts: ")
         || line.starts_with("line ")
 }
 

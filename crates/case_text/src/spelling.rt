@@ -1,23 +1,55 @@
 //! How bytes are spelled: `%` and two hexadecimal digits for any byte, `%{N}` for N times the byte behind it or the bytes in
-//! brackets behind it, and `%` at the end for nothing.
+//! brackets behind it, where `;` is a line feed, and `%` at the end for nothing.
 
 use crate::fault::CaseFault;
 use std::alloc::{AllocError, Global};
 
-// Adds bytes so many times.
-fn add_times(bytes: &mut Vec<u8>, unit: &[u8], times: u32) -> Result<(), AllocError> {
-    for _ in 0..times {
-        bytes.extend_from_slice(unit)?;
+// Adds the bytes of a unit once; a `;` is a line feed where the unit stands in brackets.
+fn add_unit(bytes: &mut Vec<u8>, unit: Unit<'_>) -> Result<(), AllocError> {
+    for byte in unit.spelled.as_bytes() {
+        if unit.is_bracketed && *byte == b';' {
+            bytes.push(b'\n')?;
+        } else {
+            bytes.push(*byte)?;
+        }
     }
     Ok(())
 }
 
-// The byte that comes again or the bytes in brackets, and what stands behind.
-fn split_unit(spelled: &str) -> Option<(&str, &str)> {
-    match spelled.strip_prefix('(') {
-        Some(unit) => unit.split_once(')'),
-        None => spelled.split_at_checked(1),
+// Adds a unit so many times.
+fn add_times(bytes: &mut Vec<u8>, unit: Unit<'_>, times: u32) -> Result<(), AllocError> {
+    for _ in 0..times {
+        add_unit(bytes, unit)?;
     }
+    Ok(())
+}
+
+// What comes again.
+#[derive(Clone, Copy, Debug)]
+struct Unit<'a> {
+    spelled: &'a str,
+    is_bracketed: bool,
+}
+
+// The byte that comes again or the bytes in brackets, and what stands behind.
+fn split_unit(spelled: &str) -> Option<(Unit<'_>, &str)> {
+    let (spelled, rest, is_bracketed) = match spelled.strip_prefix('(') {
+        Some(unit) => {
+            let (unit, rest) = unit.split_once(')')?;
+            (unit, rest, true)
+        }
+        None => {
+            let (unit, rest) = spelled.split_at_checked(1)?;
+            (unit, rest, false)
+        }
+    };
+    Some((
+        Unit {
+            spelled,
+            is_bracketed,
+        },
+        rest,
+    ))
 }
 
 // Adds what stands behind a `%{`.
@@ -25,7 +57,7 @@ fn add_repeated(bytes: &mut Vec<u8>, spelled: &str) -> Result<(), CaseFault> {
     let (times, rest) = spelled.split_once('}').ok_or(CaseFault::Spelling)?;
     let times: u32 = times.parse().ok().ok_or(CaseFault::Spelling)?;
     let (unit, rest) = split_unit(rest).ok_or(CaseFault::Spelling)?;
-    add_times(bytes, unit.as_bytes(), times)?;
+    add_times(bytes, unit, times)?;
     bytes.extend_from_slice(rest.as_bytes())?;
     Ok(())
 }

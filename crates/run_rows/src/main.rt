@@ -5,6 +5,7 @@
 #![tactic(auto)]
 
 mod devices;
+mod replies;
 mod runs;
 
 use case_text::add_transcript;

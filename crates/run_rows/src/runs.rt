@@ -1,8 +1,7 @@
 //! Runs of a script over a map.
 
-ghost use Rattle.std.specs.Prelude.{◌<◌};
-
-use crate::devices::{Devices, words};
+use crate::devices::{Devices, Way, words};
+use crate::replies::add_replies;
 use case_text::{Answers, Case, CaseFault, Texts, add_lines};
 use edit_session::{Status, run};
 use outside_io::MemVault;
@@ -32,7 +31,7 @@ fn add_left(
     devices: &Devices,
     texts: &Texts,
 ) -> Result<(), AllocError> {
-    add_lines(out, "< ", devices.replies.given())?;
+    add_replies(out, devices.replies.given())?;
     writeln!(out, "= status {}", status.number())?;
     add_kept(out, &devices.vault, texts)
 }
@@ -57,18 +56,15 @@ fn outcome(
     Ok(out)
 }
 
-// What comes of a run whose script is given in pieces.
+// What comes of a run over devices that are set in a way.
 fn outcome_in(
     alloc: Global,
     case: &Case<'_>,
     texts: &Texts,
-    piece: u32,
+    way: Way,
 ) -> Result<String, CaseFault> {
-    if piece == 0 {
-        return Err(CaseFault::Number);
-    }
     let words = words(alloc, case)?;
-    let devices = Devices::of(alloc, case, &words, texts, piece as usize)?;
+    let devices = Devices::of(alloc, case, &words, texts, way)?;
     Ok(outcome(alloc, &words, devices, texts)?)
 }
 
@@ -106,8 +102,38 @@ fn add_run(
 ) -> Result<(), CaseFault> {
     let mut before = String::new(alloc);
     for piece in &pieces(alloc, case)? {
-        let outcome = outcome_in(alloc, case, texts, *piece)?;
+        let way = Way {
+            piece: *piece,
+            cut: None,
+        };
+        let outcome = outcome_in(alloc, case, texts, way)?;
         add_outcome(out, before.as_str(), outcome.as_str(), *piece)?;
+        before = outcome;
+    }
+    Ok(())
+}
+
+// Adds what comes of a run over the first bytes of its texts, for each number of bytes from `first` to `last`, where it is another
+// than that of a byte less.
+fn add_cuts(
+    alloc: Global,
+    case: &Case<'_>,
+    texts: &Texts,
+    first: u32,
+    last: u32,
+    out: &mut String,
+) -> Result<(), CaseFault> {
+    let mut before = String::new(alloc);
+    for length in first..=last {
+        let way = Way {
+            piece: PIECE,
+            cut: Some(length),
+        };
+        let outcome = outcome_in(alloc, case, texts, way)?;
+        if outcome != before {
+            writeln!(out, "= cut after {length}")?;
+            out.push_str(outcome.as_str())?;
+        }
         before = outcome;
     }
     Ok(())
@@ -128,6 +154,10 @@ impl Answers for Runs {
             return Err(CaseFault::NoKind);
         }
         case.add_to(out)?;
-        add_run(alloc, case, texts, out)
+        match case.numbers(alloc, "cuts")?.as_slice() {
+            [] => add_run(alloc, case, texts, out),
+            [first, last] => add_cuts(alloc, case, texts, *first, *last, out),
+            _ => Err(CaseFault::Number),
+        }
     }
 }
