@@ -1,6 +1,6 @@
 #!/bin/sh
-# Times reading, moving and saving: a map of 65,535 boxes, then 100,000 moves of them, by the proved program.
-# It prints seconds and the greatest memory of each run. A benchmark, and no test.
+# Times the proved program on a map of 65,535 boxes: reading and saving, `check`, 100,000 moves and as many undos, `tree`; and 1,000
+# `group` lines on a map of 64,000. It prints seconds and the greatest memory of each run. A benchmark, and no test.
 set -e
 top=$(cd "$(dirname "$0")/.." && pwd)
 program="$top/crates/brushed/out/brushed"
@@ -8,9 +8,10 @@ program="$top/crates/brushed/out/brushed"
 folder=$(mktemp -d)
 trap 'rm -rf "$folder"' EXIT
 cd "$folder"
-awk 'BEGIN {
+boxes() {
+    awk -v count="$1" 'BEGIN {
     print "{"; print "\"classname\" \"worldspawn\""; print "\"mapversion\" \"220\""
-    for (i = 0; i < 65535; i++) {
+    for (i = 0; i < count; i++) {
         x = -4000 + 15 * (i % 512); y = -4000 + 60 * int(i / 512) % 8000; z = -64
         X = x + 8; Y = y + 8; Z = z + 32
         print "{"
@@ -23,13 +24,27 @@ awk 'BEGIN {
         print "}"
     }
     print "}"
-}' > boxes.map
+    }'
+}
+boxes 65535 > boxes.map
+boxes 64000 > fewer.map
 awk 'BEGIN { for (i = 0; i < 100000; i++) printf "move %d %d %d %d\n", i % 3 - 1, i % 5 - 2, i % 7 - 3, (i * 7919) % 65535 + 1 }' > moves.script
+cp moves.script undone.script
+awk 'BEGIN { for (i = 0; i < 100000; i++) print "undo" }' >> undone.script
+awk 'BEGIN { for (i = 0; i < 1000; i++) printf "group g%d %d %d %d\n", i, 3 * i + 1, 3 * i + 2, 3 * i + 3 }' > groups.script
+echo tree > tree.script
 : > empty.script
 ls -l boxes.map | awk '{ print "map: " $5 " bytes" }'
 run() {
-    /usr/bin/time -f "$1: %e s, %M KB at most" "$program" edit boxes.map out.map < "$2" > replies.txt
-    echo "   status $?, $(wc -l < replies.txt) replies, $(grep -c '^ok$' replies.txt || true) ok"
+    title=$1 map=$2 script=$3
+    status=0
+    /usr/bin/time -f "$title: %e s, %U of the core, %M KB at most" "$program" edit "$map" out.map < "$script" > replies.txt || status=$?
+    echo "   status $status, $(wc -l < replies.txt) lines, $(grep -c '^ok' replies.txt || true) of them ok"
 }
-run "read and save" empty.script
-run "read, 100,000 moves, save" moves.script
+run "read and save" boxes.map empty.script
+/usr/bin/time -f "check: %e s, %U of the core, %M KB at most" "$program" check boxes.map
+run "100,000 moves" boxes.map moves.script
+run "100,000 moves and as many undos" boxes.map undone.script
+run "tree" boxes.map tree.script
+run "read and save the map of 64,000" fewer.map empty.script
+run "1,000 groups of three" fewer.map groups.script
