@@ -1,9 +1,3 @@
-pub mod Lines
-pub mod Numbers
-pub mod FaceLine
-pub mod Boxes
-pub mod PlainForm
-pub mod SavedText
 pub mod Grammar
 pub mod Fits
 pub mod Meaning
