@@ -1,0 +1,6 @@
+mod Found
+mod Tallies
+mod Unlinked
+mod Causes
+mod Ways
+mod AnyTests
