@@ -7,3 +7,15 @@ pub mod NoLinks
 pub mod ReadOne
 pub mod Placed
 pub mod RingWalk
+pub mod Drawing
+pub mod Lying
+pub mod Pushing
+pub mod InPlaces
+pub mod BrushNotes
+pub mod EmptyGroups
+pub mod Raised
+pub mod SoundLeaves
+pub mod Sizes
+pub mod PlainReadings
+pub mod Filling
+pub mod BuiltMap

@@ -52,7 +52,7 @@ module _ (kept : List Item) (plain : (i : Item) → i ∈ kept → IsPlain i.rea
         subst IsPlain (sym (some_is r.2)) (record { mark = refl; link = refl })
   ]
 
-  slot_plain : (q : ℕ) (x : Node) → slot_at (slots kept) q ≡ Some x → IsPlain x
+  pub slot_plain : (q : ℕ) (x : Node) → slot_at (slots kept) q ≡ Some x → IsPlain x
   slot_plain q x e = let r = of_flat (slots_of kept) kept (Some x) (slot_in (slots kept) q x e) in item_plain r.0 r.1 x r.2
 
   node_same : (q : ℕ) → option_map (λ x. with_mark None (with_link None x)) (slot_at (slots kept) q) ≡ slot_at (slots kept) q

@@ -4,3 +4,4 @@ pub mod Saving
 pub mod Kinds
 pub mod Judging
 pub mod Passes
+pub mod Slots

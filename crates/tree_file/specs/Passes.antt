@@ -1,13 +1,13 @@
 -- What the passes over a file's readings keep.
-use Rattle.std.specs.Prelude.{◌≡◌, ℕ, suc, ◌+◌, ◌<◌, Bool, false, nat_eq, List, [], ◌∷◌, length, map, filter, flat_map, slice_index_or, None, option_map, Result}
+use Rattle.std.specs.Prelude.{◌≡◌, ℕ, suc, ◌+◌, ◌<◌, ◌≤◌, Bool, false, not, ◌&&◌, ◌||◌, ◌==◌, nat_eq, nat_lt, List, [], ◌∷◌, length, map, filter, flat_map, slice_index_or, None, option_map, Result}
 use Rattle.std.specs.HashMap.{HashMap, get}
 use Rattle.std.specs.List.{find}
 use Rattle.algebra.specs.Members.{◌∈◌}
 use Rattle.map_text.specs.declared.document.Reason.{Reason}
 use Rattle.map_model.specs.Faces.{Face}
-use Rattle.map_model.specs.Tree.{Node, Brush, among}
+use Rattle.map_model.specs.Tree.{Node, Brush, group, has_kind, among, numbers_from}
 use Rattle.file_laws.specs.Readings.{Reading}
-use Rattle.file_laws.specs.Build.{Item, has_this_id, place_of, kept_brush, number_of, lies_in}
+use Rattle.file_laws.specs.Build.{Note, IdNote, ParentNote, EmptyNote, Item, has_this_id, is_nameless, is_lost, first_parents, breaks_ring, place_of, kept_brush, kept_brushes, kept_items, is_dropped, number_of, lies_in, noted}
 
 -- The readings stand at their places, from k on.
 abbrev pub InPlaceFrom : ℕ → List Reading → Type 0
@@ -51,3 +51,39 @@ bodies_of brushes = flat_map kept_brush brushes
 
 abbrev pub brush_nodes : ℕ → List (List Face) → List Node
 brush_nodes parent bodies = map (λ faces. Brush parent None faces) bodies
+
+-- The places of items rise, from k on.
+abbrev pub PlacesRise : ℕ → List Item → Type 0
+PlacesRise k [] = Unit {0}
+PlacesRise k (i ∷ items) = (k ≤ place_of i) × PlacesRise (suc (place_of i)) items
+
+-- Each item stands at its place.
+abbrev pub AreInPlace : List Item → Type 0
+AreInPlace items = map place_of items ≡ numbers_from 0 (length items)
+
+-- A flag for each place: whether it is the first of a ring.
+abbrev pub ring_flags : List Reading → List Bool
+ring_flags rs = map (breaks_ring (first_parents rs)) (numbers_from 0 (length rs))
+
+-- A group with no brush.
+abbrev pub is_bare_group : Item → Bool
+is_bare_group i = has_kind group i.reading.node && not (nat_lt 0 (length (kept_brushes i.reading)))
+
+-- How many items lie in a place, without those that are gone.
+abbrev pub children_left : List Item → List ℕ → ℕ → ℕ
+children_left items gone place = length (filter (λ j. (j.parent == place) && not (among (place_of j) gone)) items)
+
+-- A number for each place below n: how many of the items lie there, without those that are gone.
+pub record ChildCounts (n : ℕ) (items : List Item) (gone : List ℕ) (counts : List ℕ) : Type 0 where
+  pub count : length counts ≡ n
+  pub number : (p : ℕ) → p < n → slice_index_or counts p 0 ≡ children_left items gone p
+
+-- The notes on ids, on parents and on empty groups.
+abbrev pub id_notes : List Reading → List Note
+id_notes rs = noted IdNote (map (λ r. r.place) (filter (is_nameless rs) rs))
+
+abbrev pub parent_notes : List Reading → List Note
+parent_notes rs = noted ParentNote (map (λ r. r.place) (filter (λ r. is_lost rs r || breaks_ring (first_parents rs) r.place) rs))
+
+abbrev pub empty_notes : List Item → List Note
+empty_notes all = noted EmptyNote (map place_of (filter (is_dropped (kept_items all)) all))

@@ -1,9 +1,9 @@
 //! What the ids in a file lead to: the first layer or group with an id, and the parents that are named.
 
-ghost use Rattle.std.specs.Prelude.{◌≡◌, ◌++◌, length, map, filter, option_map, unwrap_or, IfOk, OnOk};
+ghost use Rattle.std.specs.Prelude.{◌≡◌, ◌<◌, ◌||◌, ◌++◌, length, map, filter, option_map, unwrap_or, IfOk, OnOk};
 ghost use Rattle.map_model.specs.Tree.{group, layer};
-ghost use Rattle.file_laws.specs.Build.{named, is_nameless, place_named, named_parent, is_lost, first_parents, noted, IdNote};
-ghost use Rattle.tree_file.specs.Passes.{InPlace, HasPlaces};
+ghost use Rattle.file_laws.specs.Build.{named, is_nameless, place_named, named_parent, is_lost, first_parents, breaks_ring, noted, IdNote};
+ghost use Rattle.tree_file.specs.Passes.{InPlace, HasPlaces, ring_flags, parent_notes};
 
 use crate::reading::Reading;
 use map_report::Note;
@@ -112,8 +112,8 @@ fn named_parent(table: &HashMap<u32, u32>, readings: &[Reading], reading: &Readi
     }
 }
 
-/// Whether a reading names a parent, and none is there.
-pub(crate) fn is_lost(table: &HashMap<u32, u32>, readings: &[Reading], reading: &Reading) -> bool
+// Whether a reading names a parent, and none is there.
+fn is_lost(table: &HashMap<u32, u32>, readings: &[Reading], reading: &Reading) -> bool
     requires table { HasPlaces readings.now table.now }
     requires in_place { InPlace readings.now }
     ensures { result ≡ is_lost readings.now reading.now }
@@ -136,4 +136,40 @@ pub(crate) fn first_parents(
         parents.push(named_parent(table, readings, reading).unwrap_or(0))?;
     }
     Ok(parents)
+}
+
+// Whether a reading goes to the world: the parent that it names isn't there, or it is the first of a ring.
+fn goes_to_world(
+    table: &HashMap<u32, u32>,
+    readings: &[Reading],
+    breaks: &[bool],
+    reading: &Reading,
+) -> bool
+    requires table { HasPlaces readings.now table.now }
+    requires in_place { InPlace readings.now }
+    requires breaks { breaks.now ≡ ring_flags readings.now }
+    requires here { reading.now.place < length readings.now }
+    ensures { result ≡ (is_lost readings.now reading.now || breaks_ring (first_parents readings.now) reading.now.place) }
+{
+    is_lost(table, readings, reading) || breaks[reading.place() as usize]
+}
+
+/// Notes each reading that goes to the world for want of the parent that it names, or since it is the first of a ring.
+pub(crate) fn note_parents(
+    table: &HashMap<u32, u32>,
+    readings: &[Reading],
+    breaks: &[bool],
+    notes: &mut Vec<Note>,
+) -> Result<(), AllocError>
+    requires table { HasPlaces readings.now table.now }
+    requires in_place { InPlace readings.now }
+    requires breaks { breaks.now ≡ ring_flags readings.now }
+    ensures { OnOk result (notes.new.items ≡ notes.old.items ++ parent_notes readings.now) }
+{
+    for reading in readings {
+        if goes_to_world(table, readings, breaks, reading) {
+            notes.push(Note::Parent(reading.place()))?;
+        }
+    }
+    Ok(())
 }
