@@ -39,7 +39,7 @@ use Rattle.map_laws.proofs.Unlinking.{Outcome, EndsPlainly, apply_is, accepted_s
 -- Faces with plain fields. -----------------------------------------------------------------------------------------------------------
 
 -- A wall isn't flat, and its base axes are in range.
-wall_not_flat : (t : ThreePoints) → IsWall t → is_flat t ≡ false
+pub wall_not_flat : (t : ThreePoints) → IsWall t → is_flat t ≡ false
 wall_not_flat t w = ap is_zero w.is ∙ by w.normal w.along
   where
     by : (n : Vector) → n ∈ normals → is_zero n ≡ false
@@ -98,7 +98,7 @@ material_kept s (inr h) = subst (λ b. is_material_text (cond b (codes "__TB_emp
 
 -- The command. -----------------------------------------------------------------------------------------------------------------------
 
-near : (p : List ℤ) → IsPoint p → IsNear (point_in p)
+pub near : (p : List ℤ) → IsPoint p → IsNear (point_in p)
 near [] h = record { x = omega arith; y = omega arith; z = omega arith }
 near (x ∷ []) h = record { x = h.0; y = omega arith; z = omega arith }
 near (x ∷ y ∷ []) h = record { x = h.0; y = h.1.0; z = omega arith }

@@ -326,7 +326,7 @@ module _ (a b : Point) (x : a.x <ℤ b.x) (y : a.y <ℤ b.y) (z : a.z <ℤ b.z) 
     high_x = λ n. absurd (n (itself_same (high_x b.x)));
   })
 
-  trim : Trims (box a b) [] (box a b) (box a b)
+  pub trim : Trims (box a b) [] (box a b) (box a b)
   unfolding dot cross
   trim =
       keeps (record { first = λ g i. elim i [ ]; bears = bears_low_x })
@@ -337,7 +337,7 @@ module _ (a b : Point) (x : a.x <ℤ b.x) (y : a.y <ℤ b.y) (z : a.z <ℤ b.z) 
       (keeps (record { first = none_same (high_x b.x) refl (high_y b.y ∷ high_z b.z ∷ low_z a.z ∷ low_y a.y ∷ low_x a.x ∷ []) refl; bears = bears_high_x })
       ends)))))
 
-  proper : Proper (box a b)
+  pub proper : Proper (box a b)
   unfolding dot
   proper f here = one_positive
   proper f (there here) = one_positive
@@ -347,7 +347,7 @@ module _ (a b : Point) (x : a.x <ℤ b.x) (y : a.y <ℤ b.y) (z : a.z <ℤ b.z) 
   proper f (there (there (there (there (there here))))) = one_positive
   proper f (there (there (there (there (there (there i)))))) = elim i [ ]
 
-  some_volume : IsNear a → IsNear b → ¬ (NoVolume (box a b))
+  pub some_volume : IsNear a → IsNear b → ¬ (NoVolume (box a b))
   some_volume p q none =
       let u = middle_in_reach a.x b.x p.x q.x in
       let v = middle_in_reach a.y b.y p.y q.y in

@@ -75,7 +75,7 @@ room_left n total answer says passed = by (nat_lt 65535 n) refl
     by false is = ltb-false 65535 n is
 
 -- Too many numbers would be drawn.
-room_gone : (n : ℕ) (total full : Full) (answer : Result (Unit {0}) Full) → answer ≡ asked_room n total → answer ≡ Err full → (65535 < n) × (full ≡ total)
+pub room_gone : (n : ℕ) (total full : Full) (answer : Result (Unit {0}) Full) → answer ≡ asked_room n total → answer ≡ Err full → (65535 < n) × (full ≡ total)
 room_gone n total full answer says stopped = by (nat_lt 65535 n) refl
   where
     same : answer ≡ Err total → full ≡ total

@@ -2,6 +2,7 @@
 
 ghost use Rattle.std.specs.Prelude.{◌≡◌, false, []};
 ghost use Rattle.cmd_text.specs.Kept.{IsNameText};
+ghost use Rattle.tree_ops.specs.Material.{IsMaterial};
 
 use fixed_num::Text;
 use std::alloc::Global;
@@ -49,6 +50,13 @@ impl Settings {
         ensures { result.now ≡ self.now.material }
     {
         self.material.bytes()
+    }
+
+    /// The current material is empty, or a name.
+    pub fn has_material(&self)
+        ensures { IsMaterial self.now.material }
+    {
+        let _material = &self.material;
     }
 
     /// Locks textures to faces that are moved, or doesn't. It takes no memory.

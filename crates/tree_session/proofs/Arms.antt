@@ -8,25 +8,25 @@ use Rattle.map_model.specs.Replies.{Reply, Done, No, Memory}
 use Rattle.map_model.specs.History.{Records}
 use Rattle.map_model.specs.Apply.{apply}
 use Rattle.map_model.specs.Machine.{State, Answer, Short, current, only, lock_answer, applied_answer, obey}
-use Rattle.tree_ops.specs.TreeCommands.{is_tree_command}
 use Rattle.undo_log.specs.Log.{maps_of, place_of}
+use Rattle.tree_session.specs.Built.{changes_map}
 use Rattle.tree_session.specs.Sitting.{state_at, ObeysOrStops}
-use Rattle.tree_session.specs.Words.{TakesMaterial, SetsLock, GoesBackBy, GoesOnBy, ChangesBy, Lists, ListsNode, ListsTree}
+use Rattle.tree_session.specs.Words.{TakesMaterial, SetsLock, GoesBackBy, GoesOnBy, ChangesBy, ListsNode, ListsTree}
 use Rattle.tree_session.proofs.States.{current_is}
-use Rattle.tree_session.proofs.WhichWords.{IsOther, obeys_tree, tree_may_want, refuses_other}
+use Rattle.tree_session.proofs.WhichWords.{IsOther, obeys_changing, changing_may_want, refuses_other}
 
 module _ (before : Held) (old : Records) (settings : Settings) where
   abbrev s : State
   s = state_at before old settings
 
-  pub changes : (c : Command) (result : Reply) (new : Records) (after : Held) → is_tree_command c ≡ true → ChangesBy settings c old before result new after →
+  pub changes : (c : Command) (result : Reply) (new : Records) (after : Held) → changes_map c ≡ true → ChangesBy settings c old before result new after →
       ObeysOrStops s c (Short result) (state_at after new settings)
   changes c result new after e =
       ⊎_elim
       (λ (answers : (b : Below) → IsRight b → applied_answer s (apply b settings (whole before) c) ≡ record { state = state_at after new settings; answer = Short result }).
-      inl (λ b right. obeys_tree b s c e ∙ ap (λ m. applied_answer s (apply b settings m c)) (current_is before old settings) ∙ answers b right))
+      inl (λ b right. obeys_changing b s c e ∙ ap (λ m. applied_answer s (apply b settings m c)) (current_is before old settings) ∙ answers b right))
       (λ (wants : (result ≡ Memory) × (state_at after new settings ≡ s)).
-      inr (record { says_so = ap Short wants.0; stays = wants.1; may_want = tree_may_want c e }))
+      inr (record { says_so = ap Short wants.0; stays = wants.1; may_want = changing_may_want c e }))
 
   pub takes_material : (name : List ℕ) (reply : Reply) (new : Settings) → TakesMaterial name settings reply new → ObeysOrStops s (Material name) (Short reply) (state_at before old new)
   takes_material name reply new =
@@ -60,5 +60,5 @@ module _ (before : Held) (old : Records) (settings : Settings) where
       inl (λ b right. lists s (current_is before old settings) b right))
       (λ (wants : answer ≡ Short Memory). inr (record { says_so = wants; stays = refl; may_want = refl }))
 
-  pub refuses : (c : Command) → IsOther c → is_tree_command c ≡ false → ObeysOrStops s c (Short (No NotBuilt)) s
+  pub refuses : (c : Command) → IsOther c → changes_map c ≡ false → ObeysOrStops s c (Short (No NotBuilt)) s
   refuses c other e = inl (λ b right. refuses_other b s c other e)

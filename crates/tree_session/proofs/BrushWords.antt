@@ -1,6 +1,6 @@
 -- The vertices and the loop of a face, one word after another.
-use Rattle.std.proofs.Common.{◌≡◌, ℕ, zero, suc, ◌+◌, ◌≤◌, Bool, true, false, cond, List, [], ◌∷◌, ◌++◌, length, take, map, filter, Option, None, Some, option_map, Result, Ok, Err, ◌<◌, get_or, pos, refl, ap, ap₂, sym, subst, ◌∙◌, arith, add-one, append_assoc, append-nil, take_all}
-use Rattle.std.specs.Prelude.{slice_get, unwrap_or, flat_map, MatchOption, OnOk}
+use Rattle.std.proofs.Common.{◌≡◌, ℕ, zero, suc, ◌+◌, ◌≤◌, Bool, true, false, cond, List, [], ◌∷◌, ◌++◌, length, take, map, filter, Option, None, Some, option_map, Result, Ok, Err, ◌<◌, get_or, pos, refl, ap, ap₂, sym, subst, ◌∙◌, arith, append_assoc, append-nil}
+use Rattle.std.specs.Prelude.{slice_get, unwrap_or, MatchOption, OnOk}
 use Rattle.std.specs.Ordering.{int_eq}
 use Rattle.std.specs.Fmt.{signed_decimal}
 use Rattle.std.specs.List.{find, enumerate_from}

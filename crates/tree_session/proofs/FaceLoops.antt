@@ -1,5 +1,5 @@
 -- The loop of a face as it is computed from the vertices is the one that the definition of loops tells.
-use Rattle.std.proofs.Common.{◌≡◌, ◌≢◌, ℕ, zero, suc, ◌+◌, ◌-◌, ◌<◌, ◌≤◌, Bool, true, false, cond, not, ◌&&◌, ◌||◌, ◌==◌, List, [], ◌∷◌, ◌++◌, length, map, Option, Some, None, ℤ, pos, neg_ℤ, ◌*ℤ◌, ◌<ℤ◌, refl, ap, ap₂, sym, subst, ◌∙◌, arith, true≢false, ne_eqb, eqb-true, filter, rules, eq-eqb}
+use Rattle.std.proofs.Common.{◌≡◌, ◌≢◌, ℕ, zero, suc, ◌+◌, ◌<◌, ◌≤◌, Bool, true, false, cond, not, ◌&&◌, ◌||◌, ◌==◌, List, [], ◌∷◌, ◌++◌, length, map, Option, Some, None, ℤ, pos, neg_ℤ, ◌*ℤ◌, ◌<ℤ◌, refl, ap, ap₂, sym, subst, ◌∙◌, arith, true≢false, ne_eqb, eqb-true, filter, rules, eq-eqb}
 use Rattle.std.specs.Prelude.{slice_get, int_lt}
 use Rattle.std.specs.List.{list_all, find, enumerate_from}
 use Rattle.std.specs.Ordering.{int_eq}
@@ -10,11 +10,11 @@ use Rattle.algebra.proofs.Orders.{positive-mul}
 use Rattle.algebra.proofs.Points.{same_point_refl}
 use Rattle.exact_geom.proofs.Unique.{one_form}
 use Rattle.vertex_laws.specs.HalfEdge.{turn}
-use Rattle.vertex_laws.specs.Loop.{IsNext, at_front, later, closed, IsLoop, Distinct, distinct_more}
+use Rattle.vertex_laws.specs.Loop.{IsNext, at_front, later, Distinct, distinct_more}
 use Rattle.vertex_laws.proofs.HalfEdge.{turn-swap}
 use Rattle.solid_laws.specs.Names.{AreVertices}
 use Rattle.solid_laws.specs.FaceLoop.{LeastFirst, IsNumberedLoop}
-use Rattle.solid_laws.proofs.Numbered.{Picks, OneNumber, one_number, got_member}
+use Rattle.solid_laws.proofs.Numbered.{Picks, one_number, got_member}
 use Rattle.solid_laws.proofs.Round.{next_closed}
 use Rattle.map_model.specs.Loops.{number_is_on, is_next, loop_from, loop_of, loop}
 

@@ -1,5 +1,5 @@
 -- The machine of the words that are built: its replies can't be taken for the line memory, and a line is answered by its first bytes.
-use Rattle.std.proofs.Common.{◌≡◌, ◌≢◌, refl, ap, sym, ◌∙◌, ℕ, ◌<◌, ◌≤◌, Bool, true, false, cond, List, [], ◌++◌, length, take, Option, Some, None, Ok, Err, arith, ⊎_elim, take_all, length-take}
+use Rattle.std.proofs.Common.{◌≡◌, ◌≢◌, refl, ap, sym, ◌∙◌, ℕ, ◌<◌, ◌≤◌, Bool, true, false, cond, List, [], ◌++◌, length, take, Some, None, Ok, Err, arith, ⊎_elim, take_all, length-take}
 use Rattle.std.proofs.lemmas.Bool.{cases_lt}
 use Rattle.line_machine.specs.Machine.{memory_line}
 use Rattle.cmd_text.specs.declared.reply.Refusal.TheVariants.{NotBuilt}
@@ -8,7 +8,7 @@ use Rattle.cmd_text.proofs.LineLaws.{read_too_long}
 use Rattle.cmd_text.proofs.ReplyLaws.{only_want}
 use Rattle.map_model.specs.Below.{Below}
 use Rattle.map_model.specs.Commands.{Command}
-use Rattle.map_model.specs.Replies.{No, Memory}
+use Rattle.map_model.specs.Replies.{No}
 use Rattle.map_model.specs.Machine.{State, answer_text, answer_line, obey, refused}
 use Rattle.map_model.proofs.Serving.{replies_law}
 use Rattle.tree_session.specs.Built.{is_built, answer_read, BuiltRepliesLaw, BuiltFrontLaw}

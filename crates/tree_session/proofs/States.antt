@@ -1,16 +1,14 @@
 -- The state for which a session stands: its current map, and what the steps of its parts make of it.
-use Rattle.std.proofs.Common.{◌≡◌, ℕ, zero, suc, ◌+◌, ◌<◌, ◌≤◌, Bool, true, false, List, [], ◌∷◌, ◌++◌, length, take, Ok, Err, refl, ap, ap₂, sym, subst, ◌∙◌, arith, add-one, length-append, true≢false, inl, inr, ⊎_elim}
-use Rattle.std.specs.Prelude.{slice_index_or, nat_lt, ◌⊎◌}
+use Rattle.std.proofs.Common.{◌≡◌, ℕ, suc, ◌+◌, ◌<◌, ◌≤◌, Bool, true, false, List, [], ◌∷◌, ◌++◌, length, take, refl, ap, ap₂, sym, subst, ◌∙◌, arith, add-one, length-append, true≢false, inl, inr, ⊎_elim}
+use Rattle.std.specs.Prelude.{slice_index_or, nat_lt}
 use Rattle.std.proofs.lemmas.Bool.Decides.{nat_tests}
 use Rattle.uv_lock.specs.declared.texture.Format.{Format}
 use Rattle.uv_lock.specs.declared.texture.Format.TheVariants.{Standard, Valve}
 use Rattle.map_model.specs.Tree.{Whole, Held, whole, format_of}
 use Rattle.map_model.specs.Edits.{Changes, swap}
-use Rattle.map_model.specs.Below.{Below, IsRight}
 use Rattle.map_model.specs.Commands.{Settings, Command}
 use Rattle.map_model.specs.Replies.{Refusal, Reply, Done, No, Memory, LockNeedsValve, NothingToUndo, NothingToRedo}
 use Rattle.map_model.specs.History.{Records, maps_before, maps_after}
-use Rattle.map_model.specs.Apply.{Applied, apply}
 use Rattle.map_model.specs.Machine.{State, Short, current, done, refused, with_map, lock_answer, undo_answer, redo_answer, applied_answer}
 use Rattle.map_model.specs.Promises.{Plans, Refuses}
 use Rattle.undo_log.specs.Log.{GoesBack, GoesOn, HasOneMore, maps_of, place_of}

@@ -1,5 +1,5 @@
 -- The words that are built so far, and the session as the machine that knows them alone.
-use Rattle.std.specs.Prelude.{ℕ, ◌<◌, Bool, true, cond, List, Some, None, Ok, Err}
+use Rattle.std.specs.Prelude.{ℕ, ◌<◌, Bool, true, cond, ◌||◌, List, Some, None, Ok, Err}
 use Rattle.line_machine.specs.Machine.{Step, NeverSaysMemory, IsAnsweredByFront}
 use Rattle.cmd_text.specs.declared.reply.Refusal.TheVariants.{NotBuilt}
 use Rattle.cmd_text.specs.Reading.{Read, line_read}
@@ -7,8 +7,13 @@ use Rattle.map_model.specs.Below.{Below}
 use Rattle.map_model.specs.Commands.{Command, Material, Lock, Undo, Redo, Show, Tree}
 use Rattle.map_model.specs.Machine.{State, Answered, Silent, Short, answer_text, only, refused, fault_reply, obey}
 use Rattle.tree_ops.specs.TreeCommands.{is_tree_command}
+use Rattle.edit_ops.specs.EditCommands.{is_edit_command}
 
--- The session does what the command says: the commands of the tree, and its own.
+-- The commands that change the map: those of the tree, and those that make brushes.
+abbrev pub changes_map : Command → Bool
+changes_map c = is_tree_command c || is_edit_command c
+
+-- The session does what the command says: it changes the map, or is the session's own.
 abbrev pub is_built : Command → Bool
 is_built (Material name) = true
 is_built (Lock on) = true
@@ -16,7 +21,7 @@ is_built Undo = true
 is_built Redo = true
 is_built (Show n) = true
 is_built Tree = true
-is_built c = is_tree_command c
+is_built c = changes_map c
 
 -- What a command makes of a state: what the machine of all words says, where it is built. Else it is refused as not built.
 abbrev pub obey_built : Below → State → Command → Answered

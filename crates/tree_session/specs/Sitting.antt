@@ -1,6 +1,5 @@
 -- What a session holds, the state of the machine for which it stands, and what its calls promise in these words.
 use Rattle.std.specs.Prelude.{◌≡◌, ◌⊎◌, ℕ, List, IsTrue, Some, Ok}
-use Rattle.cmd_text.specs.Reading.{line_read}
 use Rattle.map_model.specs.Tree.{Held, whole}
 use Rattle.map_model.specs.Below.{Below, IsRight}
 use Rattle.map_model.specs.Commands.{Settings, Command}

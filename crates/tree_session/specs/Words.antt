@@ -10,8 +10,7 @@ use Rattle.map_model.specs.Replies.{Refusal, Reply, Done, Memory, NoNode, WrongK
 use Rattle.map_model.specs.History.{Records}
 use Rattle.map_model.specs.Rows.{refuse, may_be_shown}
 use Rattle.map_model.specs.Apply.{apply}
-use Rattle.map_model.specs.Machine.{State, Answer, Short, Long, only, refused, current, lock_answer, undo_answer, redo_answer, applied_answer, obey}
-use Rattle.map_model.specs.Promises.{Applies}
+use Rattle.map_model.specs.Machine.{State, Answer, Short, only, current, lock_answer, undo_answer, redo_answer, applied_answer, obey}
 use Rattle.std.specs.Prelude.{nat_lt, ◌+◌, length}
 use Rattle.undo_log.specs.Log.{HasOneMore, place_of}
 use Rattle.tree_session.specs.Sitting.{state_at}

@@ -8,7 +8,7 @@ use crate::answer::Answer;
 use crate::listings::{show, tree};
 use crate::own_words::{lock, redo, take_material, undo};
 use crate::planned::change;
-use crate::reading::is_tree_command;
+use crate::reading::changes_map;
 use cmd_text::{Command, Refusal, Reply};
 use std::alloc::Global;
 use tree_node::Map;
@@ -28,7 +28,7 @@ fn obey_it(
     ensures answer { ObeysOrStops (state_at map.old history.old.records settings.old) command.now (answer_of result) (state_at map.new history.new.records settings.new) }
     ensures keeps { Keeps history.new.records map.new }
 {
-    if is_tree_command(command) {
+    if changes_map(command) {
         return Answer::Short(change(alloc, map, history, settings, command));
     }
     match command {

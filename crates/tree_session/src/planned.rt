@@ -1,19 +1,22 @@
 //! Commands that change the map.
 
-ghost use Rattle.std.specs.Prelude.{◌≡◌, ◌≤◌, IsTrue, OnOk, length};
+ghost use Rattle.std.specs.Prelude.{◌≡◌, ◌≤◌, IsTrue, OnOk, IfOk, IfErr, length};
 ghost use Rattle.map_model.specs.Tree.{whole};
 ghost use Rattle.map_model.specs.Edits.{swap};
 ghost use Rattle.map_model.specs.History.{Tight};
 ghost use Rattle.map_model.specs.Commands.{IsGood};
+ghost use Rattle.map_model.specs.Promises.{Plans};
 ghost use Rattle.tree_node.specs.Held.{IsMap, AllBelow};
-ghost use Rattle.tree_ops.specs.TreeCommands.{is_tree_command};
+ghost use Rattle.tree_ops.specs.Faults.{RefusesRightly};
 ghost use Rattle.undo_log.specs.Log.{Keeps, HasOneMore};
+ghost use Rattle.tree_session.specs.Built.{changes_map};
 ghost use Rattle.tree_session.specs.Words.{Carries, ChangesBy};
 
+use crate::reading::is_tree_command;
 use cmd_text::{Command, Reply};
 use std::alloc::{AllocError, Global};
 use tree_node::{Change, Map};
-use tree_ops::{OpFault, Planned, Settings, edit};
+use tree_ops::{OpFault, Planned, Settings};
 use undo_log::History;
 
 // Makes room for a change in the map, and in the history. All else is as before, also after an error.
@@ -60,7 +63,27 @@ fn carry_out(map: &mut Map, history: &mut History, planned: Planned) -> Reply
     }
 }
 
-/// Changes the map as a command of the tree says, or tells why not.
+// Plans what a command makes of the map, by the crate that has the command.
+fn plan(
+    alloc: Global,
+    map: &Map,
+    settings: &Settings,
+    command: &Command,
+) -> Result<Planned, OpFault>
+    requires own { IsTrue (changes_map command.now) }
+    requires good { IsGood command.now }
+    ensures planned { IfOk result (λ p. Plans settings.now (whole map.now) command.now p.change p.reply) }
+    ensures sound { IfOk result (λ p. IsMap (swap (whole map.now) p.change)) }
+    ensures refused { IfErr result (RefusesRightly settings.now (whole map.now) command.now) }
+{
+    if is_tree_command(command) {
+        tree_ops::edit(alloc, map, settings, command)
+    } else {
+        edit_ops::edit(alloc, map, settings, command)
+    }
+}
+
+/// Changes the map as a command says, or tells why not.
 pub(crate) fn change(
     alloc: Global,
     map: &mut Map,
@@ -68,13 +91,13 @@ pub(crate) fn change(
     settings: &Settings,
     command: &Command,
 ) -> Reply
-    requires own { IsTrue (is_tree_command command.now) }
+    requires own { IsTrue (changes_map command.now) }
     requires good { IsGood command.now }
     requires keeps { Keeps history.old.records map.old }
     ensures answer { ChangesBy settings.now command.now history.old.records map.old result history.new.records map.new }
     ensures keeps { Keeps history.new.records map.new }
 {
-    match edit(alloc, map, settings, command) {
+    match plan(alloc, map, settings, command) {
         Ok(planned) => carry_out(map, history, planned),
         Err(OpFault::No(refusal)) => Reply::No(refusal),
         Err(OpFault::Memory) => Reply::Memory,

@@ -1,9 +1,8 @@
-use Rattle.std.proofs.Common.{◌≡◌, ◌+◌, ◌<◌, ◌≤◌, ◌++◌, length, take, take_all, get_or, Some, ap, sym, subst, ◌∙◌, arith}
+use Rattle.std.proofs.Common.{◌≡◌, ◌+◌, ◌<◌, ◌≤◌, ◌++◌, length, take_all, get_or, Some, ap, sym, subst, ◌∙◌, arith}
 use Rattle.std.specs.Prelude.{slice_get, flat_map}
 use Rattle.std.specs.List.{enumerate_from}
 use Rattle.std.proofs.lemmas.List.FromFn.{length-enumerate_from}
 use Rattle.solid_laws.specs.Names.{AreVertices}
-use Rattle.map_nodes.specs.Seen.{sides_of}
 use Rattle.solid_brush.specs.Sides.{half_spaces as of_sides}
 use Rattle.map_model.specs.Listings.{face_line}
 use Rattle.tree_session.proofs.Lines.{one_more_text}

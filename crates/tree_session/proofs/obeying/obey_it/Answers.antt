@@ -4,10 +4,10 @@ use Rattle.tree_session.specs.Sitting.{state_at, answer_of, ObeysOrStops}
 use Rattle.tree_session.proofs.Arms.{changes, locks, shows, lists_tree}
 use Rattle.tree_session.proofs.obeying.obey_it.Goals as goal
 
-pub returns-then-is_tree_command-clause-answer : goal.returns-then-is_tree_command-clause-answer
-returns-then-is_tree_command-clause-answer c =
+pub returns-then-changes_map-clause-answer : goal.returns-then-changes_map-clause-answer
+returns-then-changes_map-clause-answer c =
     changes c.args.map.now c.args.history.now.records c.args.settings.now c.args.command.now c.change.result c.change.new.history.records c.change.new.map
-    (sym c.if-is_tree_command.ensures) c.change.ensures.answer
+    (sym c.if-changes_map.ensures) c.change.ensures.answer
 
 pub returns-in-Lock-clause-answer : goal.returns-in-Lock-clause-answer
 returns-in-Lock-clause-answer c =

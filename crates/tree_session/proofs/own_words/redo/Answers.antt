@@ -1,6 +1,4 @@
-use Rattle.std.proofs.Common.{ap, sym, subst, ◌∙◌}
-use Rattle.map_model.specs.Replies.{No, NothingToRedo}
-use Rattle.tree_session.specs.Words.{GoesOnBy}
+use Rattle.std.proofs.Common.{ap}
 use Rattle.tree_session.proofs.States.{redone, not_redone_by}
 use Rattle.tree_session.proofs.own_words.redo.Goals as goal
 

@@ -1,5 +1,4 @@
 use Rattle.std.proofs.Common.{ap, refl, subst, sym, ◌∙◌, inl, inr}
-use Rattle.map_model.specs.Tree.{whole}
 use Rattle.map_model.specs.Edits.{swap}
 use Rattle.map_model.specs.History.{Tight}
 use Rattle.tree_node.specs.Held.{IsMap}

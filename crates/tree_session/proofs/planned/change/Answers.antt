@@ -1,5 +1,4 @@
-use Rattle.std.proofs.Common.{refl}
-use Rattle.tree_session.proofs.States.{carried, not_changed, stopped}
+use Rattle.tree_session.proofs.States.{carried}
 use Rattle.tree_session.proofs.planned.change.Goals as goal
 
 pub returns-in-Ok-clause-answer : goal.returns-in-Ok-clause-answer

@@ -1,4 +1,4 @@
-use Rattle.std.proofs.Common.{◌++◌, map, take, take_all, ap, sym, ◌∙◌, None, Some, arith, length, ◌≤◌}
+use Rattle.std.proofs.Common.{◌++◌, map, take_all, ap, ◌∙◌, None, Some, arith, length, ◌≤◌}
 use Rattle.solid_brush.specs.Sides.{half_spaces}
 use Rattle.map_model.specs.Loops.{loop}
 use Rattle.map_model.specs.Listings.{vertex_word}

@@ -1,0 +1,7 @@
+pub mod SixWalls
+pub mod Plain
+pub mod Sides
+pub mod Boxes
+pub mod Numbers
+pub mod Outcomes
+pub mod WhichCommand

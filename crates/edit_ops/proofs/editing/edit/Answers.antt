@@ -1,0 +1,5 @@
+use Rattle.edit_ops.proofs.WhichCommand.{none_other}
+use Rattle.edit_ops.proofs.editing.edit.Goals as goal
+
+pub unreachable-requires : goal.unreachable-requires
+unreachable-requires c = none_other c.args.c.now c.requires.own c.in_default.not-Box
