@@ -5,3 +5,16 @@ pub mod Boxes
 pub mod Numbers
 pub mod Outcomes
 pub mod WhichCommand
+pub mod Lists
+pub mod RowLoops
+pub mod FiveRows
+pub mod FourRows
+pub mod FaceLoops
+pub mod OneFace
+pub mod MovedSolids
+pub mod Worlds
+pub mod ThreeCounts
+pub mod Origins
+pub mod Renewals
+pub mod MovingOutcomes
+pub mod Shifts

@@ -10,6 +10,7 @@ ghost use Rattle.tree_ops.specs.Faults.{RefusesRightly};
 ghost use Rattle.edit_ops.specs.EditCommands.{is_edit_command};
 
 use crate::boxing::plan_box;
+use crate::moving::plan_move;
 use cmd_text::Command;
 use std::alloc::Global;
 use tree_node::Map;
@@ -19,7 +20,7 @@ use tree_ops::{OpFault, Planned, Settings};
 pub fn is_edit_command(c: &Command) -> bool
     ensures { result ≡ is_edit_command c.now }
 {
-    matches!(c, Command::Box { .. })
+    matches!(c, Command::Box { .. } | Command::Move { .. })
 }
 
 /// Plans a command of this crate: the first refusal of the one order, or a change that names exactly the nodes that differ,
@@ -34,6 +35,7 @@ pub fn edit(alloc: Global, map: &Map, set: &Settings, c: &Command) -> Result<Pla
 {
     match c {
         Command::Box { a, b } => plan_box(alloc, map, set, *a, *b),
+        Command::Move { .. } => plan_move(alloc, map, set, c),
         _ => unreachable!(),
     }
 }

@@ -96,7 +96,8 @@ fn may_be_deleted(node: &Node) -> bool
     }
 }
 
-fn is_movable(node: &Node) -> bool
+/// Whether nodes of this kind can be moved, copied and grouped.
+pub fn is_movable(node: &Node) -> bool
     ensures { result ≡ is_movable (kind_of node.now) }
 {
     match node {

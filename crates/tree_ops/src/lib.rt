@@ -24,6 +24,8 @@ mod settings;
 
 pub use editing::edit;
 pub use fault::OpFault;
+pub use kinds::is_movable;
+pub use named::ids;
 pub use planned::Planned;
 pub use pruning::prune;
 pub use settings::Settings;

@@ -38,7 +38,8 @@ fn one(alloc: Global, number: u32) -> Result<Vec<NodeId>, AllocError>
     Ok(ids)
 }
 
-fn ids(alloc: Global, numbers: &Rows<u32>) -> Result<Vec<NodeId>, AllocError>
+/// The numbers of nodes as a line names them.
+pub fn ids(alloc: Global, numbers: &Rows<u32>) -> Result<Vec<NodeId>, AllocError>
     ensures { IfOk result (λ ids. ids.items ≡ numbers.now) }
 {
     let mut ids = Vec::new(alloc);

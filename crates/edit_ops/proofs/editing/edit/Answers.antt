@@ -2,4 +2,4 @@ use Rattle.edit_ops.proofs.WhichCommand.{none_other}
 use Rattle.edit_ops.proofs.editing.edit.Goals as goal
 
 pub unreachable-requires : goal.unreachable-requires
-unreachable-requires c = none_other c.args.c.now c.requires.own c.in_default.not-Box
+unreachable-requires c = none_other c.args.c.now c.requires.own c.in_default.not-Box c.in_default.not-Move

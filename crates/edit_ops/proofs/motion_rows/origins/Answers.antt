@@ -1,0 +1,19 @@
+use Rattle.std.proofs.Common.{sym, ◌∙◌}
+use Rattle.map_model.specs.Tree.{whole, at}
+use Rattle.tree_ops.proofs.Outcomes.{err_is}
+use Rattle.edit_ops.specs.Moving.{origin_of}
+use Rattle.edit_ops.proofs.RowLoops.{stops, goes_on, all_pass}
+use Rattle.edit_ops.proofs.motion_rows.origins.Goals as goal
+
+pub loop-id-preserved : goal.loop-id-preserved
+loop-id-preserved c =
+    goes_on (λ n. origin_of c.args.motion.now n (at (whole c.args.map.now) n)) c.args.ids.now c.loop-id.id-index c.id-item.result c.loop-id-test.true c.id-item.is c.loop-id.invariant c.in_ok-origin_of.ensures
+
+pub returns-in_err-origin_of : goal.returns-in_err-origin_of
+returns-in_err-origin_of c =
+    err_is c.from_residual.result c.in_err-origin_of.field-0.0 c.from_residual.ensures.1
+    ∙ stops (λ n. origin_of c.args.motion.now n (at (whole c.args.map.now) n)) c.args.ids.now c.loop-id.id-index c.id-item.result c.loop-id-test.true c.id-item.is c.loop-id.invariant c.in_err-origin_of.field-0.0
+    (sym c.in_err-origin_of.was ∙ c.origin_of.ensures)
+
+pub returns : goal.returns
+returns c = all_pass (λ n. origin_of c.args.motion.now n (at (whole c.args.map.now) n)) c.args.ids.now c.loop-id.id-index c.loop-id-test.false c.loop-id.invariant
