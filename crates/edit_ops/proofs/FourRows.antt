@@ -1,9 +1,9 @@
 -- The first of the four rows on motions that holds.
-use Rattle.std.proofs.Common.{◌≡◌, ℕ, List, [], ◌∷◌, Bool, Option, None, Some, Result, Ok, Err}
+use Rattle.std.proofs.Common.{◌≡◌, ℕ, List, [], ◌∷◌, Bool, Option, Result, Ok, Err}
 use Rattle.std.specs.Prelude.{IsErrAnd}
 use Rattle.map_model.specs.Motions.{Motion}
 use Rattle.map_model.specs.Tree.{Whole}
-use Rattle.map_model.specs.Below.{Below, IsRight}
+use Rattle.map_model.specs.Below.{Below}
 use Rattle.map_model.specs.Replies.{Refusal}
 use Rattle.map_model.specs.Rows.{first}
 use Rattle.tree_ops.specs.Passing.{passes}

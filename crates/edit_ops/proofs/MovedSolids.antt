@@ -1,12 +1,12 @@
 -- The sides of moved faces, and whether their solid leaves the world.
-use Rattle.std.proofs.Common.{◌≡◌, ℕ, zero, suc, ◌+◌, ◌<◌, ◌≤◌, List, [], ◌∷◌, ◌++◌, length, map, take, get_or, Bool, true, false, refl, ap, sym, subst, ◌∙◌, arith, zero-add, ◌⊎◌, inl, inr}
+use Rattle.std.proofs.Common.{◌≡◌, ℕ, suc, ◌+◌, ◌<◌, ◌≤◌, List, [], ◌∷◌, ◌++◌, length, map, take, get_or, Bool, true, false, refl, ap, sym, subst, ◌∙◌, arith, zero-add}
 use Rattle.std.specs.Bool.{Decides}
 use Rattle.std.proofs.lemmas.Bool.{false≢true}
 use Rattle.std.proofs.lemmas.List.{length-map, length-take-le, take_more, map-append}
 use Rattle.algebra.specs.Members.{◌∈◌, here, there}
-use Rattle.algebra.specs.Space.{HalfSpace, Homogeneous}
+use Rattle.algebra.specs.Space.{HalfSpace}
 use Rattle.exact_geom.specs.Planes.{ThreePoints, half_space}
-use Rattle.trim_laws.specs.Trim.{Trims, ends, keeps, drops, TrimsFaces, no_faces, keeps_face, drops_face}
+use Rattle.trim_laws.specs.Trim.{Trims, ends, keeps, drops, TrimsFaces, no_faces, keeps_face}
 use Rattle.trim_laws.specs.Valid.{Valid, HasInside, OutOfWorld, HasCause, no_volume, out_of_world, too_many_faces, is_no_volume, is_out_of_world, is_too_many}
 use Rattle.trim_laws.proofs.Bearing.{in_of_inside}
 use Rattle.trim_laws.proofs.Cause.{in_reach}

@@ -1,21 +1,21 @@
 -- What comes of a command that moves nodes as they stand, from its rows and the nodes that are renewed.
-use Rattle.std.proofs.Common.{◌≡◌, ℕ, ◌+◌, ◌-◌, ◌≤◌, ◌<◌, List, [], ◌∷◌, ◌++◌, map, flat_map, filter, Bool, true, false, cond, not, ◌==◌, ◌&&◌, ◌||◌, Option, None, Some, Result, Ok, Err, IsTrue, refl, ap, sym, subst, ◌∙◌, arith, option_map}
-use Rattle.std.specs.Prelude.{unwrap_or, nat_lt, count_by, is_none}
+use Rattle.std.proofs.Common.{◌≡◌, ℕ, ◌-◌, ◌≤◌, List, [], ◌∷◌, ◌++◌, map, flat_map, filter, Bool, true, false, cond, ◌==◌, ◌&&◌, ◌||◌, Option, None, Some, Result, Ok, Err, refl, ap, sym, subst, ◌∙◌, arith, option_map}
+use Rattle.std.specs.Prelude.{unwrap_or, nat_lt, count_by}
 use Rattle.std.proofs.lemmas.Bool.Decides.{nat_tests}
 use Rattle.algebra.specs.Members.{◌∈◌}
 use Rattle.exact_geom.specs.Planes.{half_space}
 use Rattle.map_model.specs.Faces.{Face}
 use Rattle.map_model.specs.Motions.{Motion, is_signed_permutation, moved_plane}
-use Rattle.map_model.specs.Tree.{Whole, Node, World, Layer, Group, Entity, Brush, entity, brush, at, up, over, preorder, children, has_kind, is_kind, is_brush, faces_of, faces_at, props_of, props_at, format_of, among, lies_beneath}
+use Rattle.map_model.specs.Tree.{Whole, Node, World, Layer, Group, Entity, Brush, entity, brush, at, preorder, has_kind, is_kind, faces_of, faces_at, props_of, props_at, format_of, among, lies_beneath}
 use Rattle.map_model.specs.Edits.{Changes, swap, each_in_turn, renew}
 use Rattle.map_model.specs.Shape.{Shape}
 use Rattle.map_model.specs.Below.{Below, IsRight}
 use Rattle.map_model.specs.Commands.{Command, IsGood, Settings, Move, Turn, Flip}
 use Rattle.map_model.specs.Replies.{Refusal, Done, Full, OutOfWorld, Origin}
-use Rattle.map_model.specs.Rows.{rows, first, refuse, at_each, at_each_face_from, named, moved_nodes, all_moved, motion_of, moves_links, is_locked, is_movable, beyond, kind_passes, point_range, out_of_world, lock_offset, stuck_origin}
+use Rattle.map_model.specs.Rows.{rows, first, refuse, at_each, at_each_face_from, named, moved_nodes, all_moved, motion_of, moves_links, is_locked, is_movable, beyond, kind_passes}
 use Rattle.map_model.specs.Origins.{is_origin_stuck}
 use Rattle.map_model.specs.Own.{own, moved_node, move_node}
-use Rattle.map_model.specs.Apply.{Applied, apply, prune, full, unless, reply_of}
+use Rattle.map_model.specs.Apply.{apply, full, unless, reply_of}
 use Rattle.map_model.specs.Promises.{Applies, Refuses}
 use Rattle.map_laws.specs.Placed.{Placed}
 use Rattle.map_laws.specs.Unlinked.{Unlinked, finish_unlinked}
@@ -27,11 +27,11 @@ use Rattle.map_laws.proofs.Pruning.{in_turn_flat}
 use Rattle.map_laws.proofs.Refused.{NodesFit, nodes_fit}
 use Rattle.map_laws.proofs.RowsPass.{rows_pass}
 use Rattle.map_laws.proofs.Pruned.{not_emptied, prune_none, test_kind, rooted_at}
-use Rattle.map_laws.proofs.Renewing.{Alike, same_children}
-use Rattle.map_laws.proofs.TreeRows.{skip, both}
+use Rattle.map_laws.proofs.Renewing.{same_children}
+use Rattle.map_laws.proofs.TreeRows.{both}
 use Rattle.map_laws.proofs.Unlinking.{none_over, no_row}
 use Rattle.map_laws.proofs.MovingRows.{moving_rows_are}
-use Rattle.map_laws.proofs.MovedFaces.{CanBeCarried, brush_carried}
+use Rattle.map_laws.proofs.MovedFaces.{brush_carried}
 use Rattle.map_laws.proofs.MovedNodes.{moved_unlinked, keeps_moved, CanBeMoved, node_moved}
 use Rattle.map_laws.proofs.MovedMaps.{Renewed, renew_once, moves_unlinked, moved_once}
 use Rattle.map_laws.proofs.MovingCommands.{can_be_moved, moving_apply, moving_command}
@@ -41,7 +41,7 @@ use Rattle.tree_ops.specs.Passing.{passes}
 use Rattle.tree_ops.specs.Faults.{RefusesRightly}
 use Rattle.tree_ops.specs.declared.fault.OpFault.{OpFault}
 use Rattle.tree_ops.specs.declared.fault.OpFault.TheVariants.{No, Memory}
-use Rattle.edit_ops.specs.Moving.{is_motion, Says, node_rows, points_of, world_of, offsets_of, lost_of, origin_of, points_row, world_row, offsets_row, origins_row, motion_rows, CanMove, CanMoveNode}
+use Rattle.edit_ops.specs.Moving.{is_motion, Says, node_rows, points_of, world_of, offsets_of, lost_of, origin_of, points_row, world_row, offsets_row, origins_row, motion_rows, CanMoveNode}
 use Rattle.edit_ops.proofs.RowLoops.{no_row as none_of, that_row}
 
 -- The rows of the command, from those over all nodes that are moved. ----------------------------------------------------------------------

@@ -1,12 +1,12 @@
 -- Properties with a moved origin.
-use Rattle.std.proofs.Common.{◌≡◌, ℕ, List, [], ◌∷◌, Bool, true, false, not, cond, ◌&&◌, Option, None, Some, refl, ap, sym, subst, ◌∙◌}
+use Rattle.std.proofs.Common.{◌≡◌, ℕ, List, [], ◌∷◌, Bool, true, false, not, cond, Option, None, Some, refl, ap, sym, subst, ◌∙◌}
 use Rattle.std.specs.List.{list_all}
 use Rattle.std.specs.Str.{bytes_eq}
 use Rattle.std.proofs.lemmas.Bool.{and_parts}
 use Rattle.std.proofs.lemmas.Slice.Eq.{bytes_eq-Decides}
 use Rattle.map_text.specs.Spelled.{keys_are_distinct}
 use Rattle.map_model.specs.Motions.{Motion}
-use Rattle.map_model.specs.Tree.{Node, World, Layer, Group, Entity, Brush, Props, Kind, entity, kind_of, props_of, with_props}
+use Rattle.map_model.specs.Tree.{Node, World, Layer, Group, Entity, Brush, Props, entity, kind_of, props_of, with_props}
 use Rattle.map_model.specs.Props.{value_at, set_value, origin}
 use Rattle.map_model.specs.Origins.{moved_origin, moved_value, moved_props}
 use Rattle.map_model.specs.Own.{moved_node}

@@ -1,5 +1,5 @@
 -- Nodes of a map that are renewed one after another, each once.
-use Rattle.std.proofs.Common.{◌≡◌, ◌≢◌, ℕ, suc, ◌+◌, ◌<◌, ◌≤◌, List, [], ◌∷◌, length, drop, get_or, Bool, true, false, cond, ◌==◌, Option, None, Some, refl, ap, ap₂, sym, subst, ◌∙◌, arith, drop-cons, add-one, option_map}
+use Rattle.std.proofs.Common.{◌≡◌, ◌≢◌, ℕ, suc, ◌+◌, ◌<◌, ◌≤◌, List, ◌∷◌, length, drop, get_or, Bool, true, false, cond, ◌==◌, Option, None, Some, refl, ap, sym, subst, ◌∙◌, arith, drop-cons, add-one, option_map}
 use Rattle.std.specs.Prelude.{count_by, unwrap_or, is_some}
 use Rattle.std.proofs.lemmas.List.{drop_all}
 use Rattle.algebra.specs.Members.{◌∈◌, here, there}

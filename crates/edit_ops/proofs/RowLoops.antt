@@ -48,11 +48,6 @@ pub all_pass : (row : ℕ → Option Refusal) (xs : List ℕ) (i : ℕ) → leng
 all_pass row xs i le passed = ap passes (sym (passed_all row xs i le passed))
 
 -- Rows by tests.
-pub says_as : (row other : Below → Option Refusal) → ((b : Below) → IsRight b → (r : Option Refusal) → row b ≡ r → other b ≡ r) → (result : Result (Unit {0}) OpFault) → Says row result → Says other result
-says_as row other same (Ok passed) s = λ b right. same b right None (s b right)
-says_as row other same (Err (No refusal)) s = λ b right. same b right (Some refusal) (s b right)
-says_as row other same (Err Memory) s = tt
-
 pub says_stop : (row other : Below → Option Refusal) → ((b : Below) → IsRight b → (refusal : Refusal) → row b ≡ Some refusal → other b ≡ Some refusal) → (why : OpFault) → Says row (Err why) → Says other (Err why)
 says_stop row other same (No refusal) s = λ b right. same b right refusal (s b right)
 says_stop row other same Memory s = tt

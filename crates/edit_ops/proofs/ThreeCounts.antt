@@ -1,5 +1,5 @@
--- Places by their three counts.
-use Rattle.std.proofs.Common.{◌≡◌, ℕ, ◌^◌, ◌<◌, ◌≤◌, List, [], ◌∷◌, Bool, true, false, ◌&&◌, cond, Option, None, Some, ℤ, refl, ap, sym, ◌∙◌, option_map, arith, unsigned_abs, subst, get_or, pos, ◌+ℤ◌, ◌*ℤ◌, to_z, of_z, w32, w64}
+-- The counts of places: number words, and counts that a motion moves.
+use Rattle.std.proofs.Common.{◌≡◌, ℕ, ◌^◌, ◌<◌, ◌≤◌, List, [], ◌∷◌, Bool, true, false, cond, None, Some, ℤ, refl, ap, sym, ◌∙◌, arith, unsigned_abs, subst, get_or, pos, ◌+ℤ◌, ◌*ℤ◌, to_z, of_z, w32, w64}
 use Rattle.std.proofs.lemmas.Bool.Decides.{nat_tests}
 use Rattle.std.specs.Prelude.{nat_lt}
 use Rattle.std.proofs.lemmas.Int.{ints}
@@ -17,100 +17,8 @@ use Rattle.orient48.specs.MotionTexts.{is_blank, begins_blank, put_front, words_
 use Rattle.orient48.proofs.Parts.{kept, within_short}
 use Rattle.orient48.proofs.Units.{turned_size}
 use Rattle.orient48.specs.Motions.{Matrix, Motion, vector_at, turned, is_short, is_signed_permutation}
-use Rattle.map_model.specs.Shape.{is_below_million}
-use Rattle.map_model.specs.Origins.{in_range, three_counts, moved_counts}
+use Rattle.map_model.specs.Origins.{three_counts, moved_counts}
 use Rattle.edit_ops.specs.Places.{small, count_in}
-
--- Three counts, each by whether its word is a number word and whether it is small. ------------------------------------------------------
-
-abbrev one : Bool → Bool → ℤ → Option ℤ
-one t s x = cond t (cond s (Some x) None) None
-
-record Good (t s : Bool) (x a : ℤ) : Type 0 where
-  word : t ≡ true
-  low : s ≡ true
-  is : x ≡ a
-
-good : (t s : Bool) (x a : ℤ) → one t s x ≡ Some a → Good t s x a
-good true true x a e = record { word = refl; low = refl; is = cc }
-good true false x a e = absurd (cc)
-good false s x a e = absurd (cc)
-
-bad : (t s : Bool) (x : ℤ) → one t s x ≡ None → (t && s) ≡ false
-bad true true x e = absurd (cc)
-bad true false x e = refl
-bad false s x e = refl
-
-and_false : (a : Bool) → (a && false) ≡ false
-and_false true = refl
-and_false false = refl
-
-off : (t s a b : Bool) → (t && s) ≡ false → ((t && a) && (s && b)) ≡ false
-off false s a b e = refl
-off true false a b e = and_false a
-off true true a b e = absurd (cc)
-
-under : (t s a b : Bool) → (a && b) ≡ false → ((t && a) && (s && b)) ≡ false
-under false s a b e = refl
-under true false a b e = and_false a
-under true true a b e = e
-
-gone : (t s : Bool) (v : Vector) → (t && s) ≡ false → cond t (cond s (Some v) None) None ≡ None
-gone true true v e = absurd (cc)
-gone true false v e = refl
-gone false s v e = refl
-
-module _ (t u w s l k : Bool) (x y z : ℤ) where
-  abbrev three : Option Vector
-  three = cond (t && (u && (w && true))) (cond (s && (l && (k && true))) (Some (vector_at x y z)) None) None
-
-  no_first : one t s x ≡ None → three ≡ None
-  no_first e = gone (t && (u && (w && true))) (s && (l && (k && true))) (vector_at x y z) (off t s (u && (w && true)) (l && (k && true)) (bad t s x e))
-
-  no_second : one u l y ≡ None → three ≡ None
-  no_second e = gone (t && (u && (w && true))) (s && (l && (k && true))) (vector_at x y z) (under t s (u && (w && true)) (l && (k && true)) (off u l (w && true) (k && true) (bad u l y e)))
-
-  no_third : one w k z ≡ None → three ≡ None
-  no_third e =
-      gone (t && (u && (w && true))) (s && (l && (k && true))) (vector_at x y z)
-      (under t s (u && (w && true)) (l && (k && true)) (under u l (w && true) (k && true) (off w k true true (bad w k z e))))
-
-  all_three : (a b c : ℤ) → one t s x ≡ Some a → one u l y ≡ Some b → one w k z ≡ Some c → three ≡ Some (vector_at a b c)
-  all_three a b c e f g =
-      let p = good t s x a e in let q = good u l y b f in let r = good w k z c g in
-      λ i. cond (p.word i && (q.word i && (r.word i && true))) (cond (p.low i && (q.low i && (r.low i && true))) (Some (vector_at (p.is i) (q.is i) (r.is i))) None) None
-
--- Of three words.
-abbrev low : ℤ → Bool
-low x = is_below_million 1000000 x
-
-module _ (x y z : List ℕ) where
-  pub first_bad : count_in x ≡ None → three_counts (x ∷ y ∷ z ∷ []) ≡ None
-  first_bad e = no_first (is_number_word x) (is_number_word y) (is_number_word z) (low (count_of 6 x)) (low (count_of 6 y)) (low (count_of 6 z)) (count_of 6 x) (count_of 6 y) (count_of 6 z) e
-
-  pub second_bad : count_in y ≡ None → three_counts (x ∷ y ∷ z ∷ []) ≡ None
-  second_bad e = no_second (is_number_word x) (is_number_word y) (is_number_word z) (low (count_of 6 x)) (low (count_of 6 y)) (low (count_of 6 z)) (count_of 6 x) (count_of 6 y) (count_of 6 z) e
-
-  pub third_bad : count_in z ≡ None → three_counts (x ∷ y ∷ z ∷ []) ≡ None
-  third_bad e = no_third (is_number_word x) (is_number_word y) (is_number_word z) (low (count_of 6 x)) (low (count_of 6 y)) (low (count_of 6 z)) (count_of 6 x) (count_of 6 y) (count_of 6 z) e
-
-  pub all_good : (a b c : ℤ) → count_in x ≡ Some a → count_in y ≡ Some b → count_in z ≡ Some c → three_counts (x ∷ y ∷ z ∷ []) ≡ Some (vector_at a b c)
-  all_good a b c e f g =
-      all_three (is_number_word x) (is_number_word y) (is_number_word z) (low (count_of 6 x)) (low (count_of 6 y)) (low (count_of 6 z)) (count_of 6 x) (count_of 6 y) (count_of 6 z) a b c e f g
-
--- Of three counts.
-module _ (x y z : ℤ) where
-  pub first_large : small x ≡ None → in_range (vector_at x y z) ≡ None
-  first_large e = no_first true true true (low x) (low y) (low z) x y z e
-
-  pub second_large : small y ≡ None → in_range (vector_at x y z) ≡ None
-  second_large e = no_second true true true (low x) (low y) (low z) x y z e
-
-  pub third_large : small z ≡ None → in_range (vector_at x y z) ≡ None
-  third_large e = no_third true true true (low x) (low y) (low z) x y z e
-
-  pub all_small : (a b c : ℤ) → small x ≡ Some a → small y ≡ Some b → small z ≡ Some c → in_range (vector_at x y z) ≡ Some (vector_at a b c)
-  all_small a b c e f g = all_three true true true (low x) (low y) (low z) x y z a b c e f g
 
 -- Number words. --------------------------------------------------------------------------------------------------------------------------
 

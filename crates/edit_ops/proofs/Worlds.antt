@@ -1,5 +1,5 @@
 -- The row on the world, by whatever right tests.
-use Rattle.std.proofs.Common.{◌≡◌, ℕ, List, [], ◌∷◌, map, Bool, true, false, not, Option, None, Some, Ok, Err, refl, ap, sym, subst, ◌∙◌, inl}
+use Rattle.std.proofs.Common.{◌≡◌, ℕ, List, [], ◌∷◌, map, Bool, true, false, not, Option, None, Some, Ok, Err, ap, sym, subst, ◌∙◌, inl}
 use Rattle.std.specs.Prelude.{is_none}
 use Rattle.std.specs.Bool.{Decides}
 use Rattle.std.proofs.lemmas.Bool.Decides.{same_from_decides}
@@ -14,11 +14,11 @@ use Rattle.moved_laws.proofs.Staying.{valid_bounded}
 use Rattle.map_model.specs.Faces.{Face}
 use Rattle.map_model.specs.Motions.{Motion, moved_plane, is_signed_permutation}
 use Rattle.map_model.specs.Tree.{Whole, Node, Brush, at, format_of}
-use Rattle.map_model.specs.Shape.{half_spaces, FacesOk, NodeOk}
+use Rattle.map_model.specs.Shape.{half_spaces, FacesOk}
 use Rattle.map_model.specs.Below.{Below, IsRight}
 use Rattle.map_model.specs.Brushes.{first_beyond}
-use Rattle.map_model.specs.Replies.{Refusal, PointRange, OutOfWorld as LeavesWorld}
-use Rattle.map_model.specs.Rows.{refuse, beyond}
+use Rattle.map_model.specs.Replies.{PointRange, OutOfWorld as LeavesWorld}
+use Rattle.map_model.specs.Rows.{refuse}
 use Rattle.map_laws.proofs.MovingCommands.{no_refusal, none_by, no_place}
 use Rattle.tree_node.specs.Held.{IsMap}
 use Rattle.tree_ops.specs.declared.fault.OpFault.TheVariants.{No}

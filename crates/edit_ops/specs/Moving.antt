@@ -1,5 +1,5 @@
 -- Nodes that a motion moves: what each row says of one node, and what is asked of a node before it is moved.
-use Rattle.std.specs.Prelude.{◌≡◌, ℕ, Bool, true, false, cond, not, ◌||◌, ◌==◌, nat_lt, List, [], ◌∷◌, ◌++◌, map, flat_map, count_by, Option, None, Some, is_none, option_map, unwrap_or, Result, Ok, Err}
+use Rattle.std.specs.Prelude.{◌≡◌, ℕ, Bool, true, false, cond, not, ◌||◌, ◌==◌, nat_lt, List, [], ◌∷◌, map, count_by, Option, None, Some, is_none, option_map, unwrap_or, Result, Ok, Err}
 use Rattle.std.specs.List.{list_any}
 use Rattle.algebra.specs.Members.{◌∈◌}
 use Rattle.algebra.specs.Space.{HalfSpace}
@@ -7,7 +7,7 @@ use Rattle.exact_geom.specs.Planes.{half_space, first_out_of_range}
 use Rattle.trim_laws.specs.Valid.{Valid}
 use Rattle.map_model.specs.Faces.{Face}
 use Rattle.map_model.specs.Motions.{Motion, moved_plane}
-use Rattle.map_model.specs.Tree.{Whole, Node, World, Layer, Group, Entity, Brush, at, lies_beneath}
+use Rattle.map_model.specs.Tree.{Whole, Node, Entity, Brush, at, lies_beneath}
 use Rattle.map_model.specs.Shape.{half_spaces}
 use Rattle.map_model.specs.Below.{Below, IsRight}
 use Rattle.map_model.specs.Commands.{Command, Move, Turn, Flip}

@@ -1,5 +1,5 @@
 -- The place of an entity as three counts of millionths.
-use Rattle.std.specs.Prelude.{ℕ, cond, ◌&&◌, List, [], ◌∷◌, Option, None, Some, option_map, ℤ}
+use Rattle.std.specs.Prelude.{ℕ, cond, List, Option, None, Some, ℤ}
 use Rattle.algebra.specs.Space.{Vector}
 use Rattle.fixed_num.specs.Count.{is_number_word, count_of}
 use Rattle.orient48.specs.Motions.{vector_at}

@@ -93,12 +93,7 @@ pub(crate) fn carried_faces(
     Ok(Rows::of(moved))
 }
 
-fn carried_face(
-    alloc: Global,
-    motion: &Motion,
-    lock: bool,
-    face: &Face,
-) -> Result<Face, AllocError>
+fn carried_face(alloc: Global, motion: &Motion, lock: bool, face: &Face) -> Result<Face, AllocError>
     requires in_range { first_out_of_range (moved_plane motion.now face.now.plane) ≡ None }
     requires offsets { lock ≡ true → lost_offset motion.now face.now.tex ≡ None }
     ensures { IfOk result (λ moved. moved ≡ carried lock motion.now face.now) }

@@ -1,15 +1,14 @@
 -- What a document that asks for no links builds, from its readings and the items that stay of them.
-use Rattle.std.proofs.Common.{◌≡◌, ℕ, ◌+◌, ◌-◌, ◌<◌, ◌≤◌, ◌^◌, Bool, true, false, cond, ◌&&◌, nat_lt, List, length, Option, Some, None, is_some, Result, Ok, Err, option_map, unwrap_or, refl, ap, sym, subst, ◌∙◌, arith}
+use Rattle.std.proofs.Common.{◌≡◌, ℕ, ◌-◌, ◌<◌, ◌≤◌, ◌^◌, Bool, true, false, cond, ◌&&◌, nat_lt, List, length, Option, Some, None, is_some, Result, Ok, Err, option_map, unwrap_or, refl, ap, sym, subst, ◌∙◌, arith}
 use Rattle.std.specs.Prelude.{IsTrue, IsErrAnd, IfErr}
-use Rattle.std.specs.List.{list_all, list_any, sum_by}
+use Rattle.std.specs.List.{list_all}
 use Rattle.std.proofs.lemmas.Bool.{and_parts, and_from, lt-ltb, le-ltb}
 use Rattle.algebra.specs.Members.{◌∈◌}
 use Rattle.map_text.specs.declared.document.MapDoc.{MapDoc}
 use Rattle.map_text.specs.Reads.{part_count}
 use Rattle.map_text.specs.Fits.{is_format}
 use Rattle.map_text.specs.Spelled.{is_spelled, is_spelled_entity, face_formats}
-use Rattle.map_report.specs.declared.note.Note.{Note}
-use Rattle.map_model.specs.Tree.{Node, is_linked, link_of, slot_at}
+use Rattle.map_model.specs.Tree.{Node, link_of, slot_at}
 use Rattle.map_model.specs.Below.{Below, IsRight}
 use Rattle.map_model.proofs.SomeRight.{some_are_right}
 use Rattle.file_laws.specs.FileLeaves.{file_leaves}
@@ -21,7 +20,7 @@ use Rattle.tree_node.specs.Held.{IsMap}
 use Rattle.tree_file.specs.Passes.{InPlace, room}
 use Rattle.tree_file.specs.declared.fault.TreeFault as fault
 use Rattle.tree_file.specs.declared.fault.TreeFault.TheVariants.{Memory, Full as TooMany}
-use Rattle.tree_file.specs.Promises.{asks_for_links, has_links, IsRefusedFor}
+use Rattle.tree_file.specs.Promises.{has_links, IsRefusedFor}
 use Rattle.tree_file.proofs.NoLinks.{IsPlain, builds_plain, slot_plain}
 use Rattle.tree_file.proofs.Placed.{read_in_place}
 use Rattle.tree_file.proofs.SoundLeaves.{sound_leaves}

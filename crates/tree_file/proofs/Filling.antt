@@ -1,12 +1,11 @@
 -- A change that puts slots at their numbers, from 0 on, one after another.
-use Rattle.std.proofs.Common.{◌≡◌, ℕ, zero, suc, ◌+◌, ◌<◌, ◌≤◌, Bool, true, false, cond, ◌==◌, List, [], ◌∷◌, ◌++◌, length, get_or, take, Option, Some, None, refl, ap, sym, ◌∙◌, arith, inl, inr, take_all}
-use Rattle.std.specs.Prelude.{IsTrue}
+use Rattle.std.proofs.Common.{◌≡◌, ℕ, zero, suc, ◌+◌, ◌<◌, ◌≤◌, true, cond, ◌==◌, List, [], ◌∷◌, ◌++◌, length, get_or, take, Option, None, refl, ap, sym, ◌∙◌, arith, inl, inr, take_all}
 use Rattle.std.proofs.lemmas.Bool.{cases_lt}
 use Rattle.std.proofs.lemmas.List.{take_more, length-take-le}
 use Rattle.std.proofs.Math.Dec.{eqb-suc-zero, eqb-zero-suc, eqb-suc-suc}
 use Rattle.uv_lock.specs.declared.texture.Format.{Format}
-use Rattle.map_model.specs.Tree.{Whole, Node, World, at, slot_at, is_kind, world}
-use Rattle.map_model.specs.Edits.{Changes, Entry, swap, set}
+use Rattle.map_model.specs.Tree.{Whole, Node, at, slot_at, is_kind, world}
+use Rattle.map_model.specs.Edits.{Changes, swap, set}
 use Rattle.map_model.specs.Machine.{empty_map}
 use Rattle.file_laws.specs.Build.{map_of}
 use Rattle.tree_node.specs.Held.{IsMap}

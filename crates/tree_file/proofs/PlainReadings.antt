@@ -1,5 +1,5 @@
 -- Readings of a document that asks for no links, and the items that stay of them, name no link set and have plain nodes.
-use Rattle.std.proofs.Common.{◌≡◌, ℕ, zero, suc, Bool, true, false, not, List, length, None, refl, ap, sym, subst, ◌∙◌}
+use Rattle.std.proofs.Common.{◌≡◌, ℕ, zero, suc, false, not, List, length, None, refl, ap, sym, subst}
 use Rattle.std.specs.Prelude.{filter}
 use Rattle.std.specs.List.{list_any}
 use Rattle.algebra.specs.Members.{◌∈◌}

@@ -1,14 +1,13 @@
 -- How many readings, items and slots a document has: none are more than its parts.
-use Rattle.std.proofs.Common.{◌≡◌, ℕ, zero, suc, ◌+◌, ◌<◌, ◌≤◌, Bool, true, false, cond, not, List, [], ◌∷◌, ◌++◌, map, length, Result, Ok, Err, refl, ap, sym, ◌∙◌, arith, inl, inr, length-append}
-use Rattle.std.specs.Prelude.{filter, flat_map}
+use Rattle.std.proofs.Common.{◌≡◌, ℕ, zero, suc, ◌+◌, ◌≤◌, Bool, true, false, cond, not, List, [], ◌∷◌, map, length, refl, ap, sym, ◌∙◌, arith}
+use Rattle.std.specs.Prelude.{filter}
 use Rattle.std.specs.List.{sum_by}
-use Rattle.std.proofs.lemmas.Bool.{cases_Bool}
 use Rattle.std.proofs.lemmas.List.{length-map}
 use Rattle.std.proofs.lemmas.List.Sums.{sum_by-cons}
 use Rattle.uv_lock.specs.declared.texture.Format.{Format}
 use Rattle.map_text.specs.declared.document.RawEntity.{RawEntity}
 use Rattle.file_laws.specs.Leaves.{Leaves}
-use Rattle.file_laws.specs.Readings.{Reading, reading, readings_from, judged}
+use Rattle.file_laws.specs.Readings.{Reading, readings_from, judged}
 use Rattle.file_laws.specs.Build.{Item, item, items, is_empty_group, without_empty, kept_items}
 use Rattle.tree_file.specs.Passes.{room}
 

@@ -1,10 +1,9 @@
 -- What is kept of a file's brushes are brushes of a map, and what is read as a motion is a kept one.
-use Rattle.std.proofs.Common.{◌≡◌, ℕ, ◌≤◌, Bool, true, false, cond, ◌&&◌, ◌==◌, nat_lt, List, length, map, is_ok, Option, Some, None, Result, Ok, Err, refl, ap, sym, subst, ◌∙◌, arith, inl, inr, ℤ}
+use Rattle.std.proofs.Common.{◌≡◌, ℕ, ◌≤◌, Bool, true, false, cond, ◌&&◌, ◌==◌, nat_lt, List, length, is_ok, Option, Some, None, Result, Ok, Err, refl, ap, sym, subst, ◌∙◌, arith, inr, ℤ}
 use Rattle.std.specs.Prelude.{option_and_then, slice_index_or, pos}
 use Rattle.std.specs.List.{list_all}
-use Rattle.std.proofs.lemmas.Bool.{cases_Bool, and_parts, both_ways, false_from_ne_true, ltb-false}
+use Rattle.std.proofs.lemmas.Bool.{and_parts, both_ways, ltb-false}
 use Rattle.std.proofs.lemmas.List.{length-map}
-use Rattle.algebra.specs.Members.{◌∈◌}
 use Rattle.exact_geom.specs.Planes.{plane_of}
 use Rattle.trim_laws.specs.Solid.{Proper}
 use Rattle.trim_laws.specs.Trim.{TrimFaces}

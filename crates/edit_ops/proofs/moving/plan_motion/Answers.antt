@@ -1,9 +1,9 @@
-use Rattle.std.proofs.Common.{◌≡◌, ◌==◌, ◌≤◌, ℕ, List, flat_map, Ok, Err, true, ap, sym, subst, ◌∙◌}
+use Rattle.std.proofs.Common.{◌≡◌, ◌==◌, ◌≤◌, flat_map, Ok, Err, ap, sym, subst, ◌∙◌}
 use Rattle.std.specs.Prelude.{count_by}
 use Rattle.map_model.specs.Motions.{Motion, is_signed_permutation}
 use Rattle.map_model.specs.Tree.{whole, preorder}
 use Rattle.map_model.specs.Edits.{swap}
-use Rattle.map_model.specs.Rows.{first, motion_of}
+use Rattle.map_model.specs.Rows.{first}
 use Rattle.tree_ops.specs.Passing.{passes}
 use Rattle.tree_ops.specs.Faults.{RefusesRightly}
 use Rattle.tree_ops.specs.declared.fault.OpFault.TheVariants.{No}

@@ -1,4 +1,4 @@
-use Rattle.std.proofs.Common.{ap, sym, subst, ◌∙◌, refl}
+use Rattle.std.proofs.Common.{ap, sym, ◌∙◌}
 use Rattle.map_model.specs.Motions.{Motion, is_signed_permutation}
 use Rattle.map_model.specs.Rows.{named, motion_of}
 use Rattle.edit_ops.proofs.Shifts.{short_shift, only_move, is_one}

@@ -1,6 +1,4 @@
-use Rattle.std.proofs.Common.{ap, sym, subst, ◌∙◌, Some}
-use Rattle.map_model.specs.Tree.{Brush, kind_of, props_of}
-use Rattle.map_model.specs.Own.{moved_node}
+use Rattle.std.proofs.Common.{subst, Some}
 use Rattle.edit_ops.specs.Moving.{CanMoveNode}
 use Rattle.edit_ops.proofs.Renewals.{stays}
 use Rattle.edit_ops.proofs.moving_nodes.moved.Goals as goal

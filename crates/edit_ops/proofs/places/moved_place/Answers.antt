@@ -1,5 +1,4 @@
-use Rattle.std.proofs.Common.{ap, sym, subst, ◌∙◌, get_or, pos, ◌≡◌}
-use Rattle.orient48.specs.Motions.{Matrix}
+use Rattle.std.proofs.Common.{ap, subst, ◌∙◌, get_or, pos}
 use Rattle.map_model.specs.Origins.{in_range}
 use Rattle.orient48.proofs.Parts.{within_short}
 use Rattle.edit_ops.specs.Places.{counts_of}

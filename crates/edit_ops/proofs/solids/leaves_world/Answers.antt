@@ -1,10 +1,9 @@
-use Rattle.std.proofs.Common.{◌≡◌, List, length, map, true, false, sym, subst, ◌∙◌, ◌≤◌}
+use Rattle.std.proofs.Common.{length, map, true, false, sym, subst, ◌≤◌}
 use Rattle.std.specs.Bool.{Decides}
 use Rattle.algebra.specs.Members.{◌∈◌}
 use Rattle.trim_laws.specs.Valid.{HasInside, OutOfWorld}
 use Rattle.orient48.proofs.Matrices.{is_turn}
 use Rattle.map_nodes.specs.Seen.{sides_of}
-use Rattle.map_model.specs.Faces.{Face}
 use Rattle.edit_ops.specs.Moving.{moved_spaces}
 use Rattle.edit_ops.specs.Solids.{moved_face}
 use Rattle.edit_ops.proofs.MovedSolids.{few_of, valid_of, has_inside, spaces_moved, stays_in, is_out, is_gone, is_full}

@@ -1,7 +1,6 @@
-use Rattle.std.proofs.Common.{◌≡◌, ◌+◌, ◌<◌, ◌≤◌, ◌^◌, ◌-◌, length, Ok, ap, sym, subst, ◌∙◌, arith}
+use Rattle.std.proofs.Common.{◌≡◌, ◌<◌, ◌≤◌, ◌^◌, length, Ok, ap, sym, subst, ◌∙◌, arith}
 use Rattle.std.specs.List.{list_any, list_all}
 use Rattle.map_text.specs.Spelled.{is_spelled_entity}
-use Rattle.map_model.specs.Tree.{whole}
 use Rattle.file_laws.specs.FileLeaves.{file_leaves}
 use Rattle.file_laws.specs.Readings.{readings_from}
 use Rattle.file_laws.specs.Build.{begins_with_world, items, notes, slots, map_of}

@@ -1,4 +1,4 @@
-use Rattle.std.proofs.Common.{◌≡◌, ◌≤◌, length, ap, sym, subst, ◌∙◌, arith}
+use Rattle.std.proofs.Common.{◌≡◌, length, ap, sym, subst, ◌∙◌, arith}
 use Rattle.uv_lock.specs.declared.texture.Format.TheVariants.{Standard}
 use Rattle.map_model.specs.Tree.{whole}
 use Rattle.tree_node.specs.Held.{IsMap}
