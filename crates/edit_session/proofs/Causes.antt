@@ -1,5 +1,5 @@
 -- The causes of the ends of a run.
-use Rattle.std.proofs.Common.{◌≡◌, ◌≢◌, ℕ, List, Option, refl, ap, sym, subst, ◌∙◌, inl, inr}
+use Rattle.std.proofs.Common.{◌≡◌, ◌≢◌, ◌≤◌, arith, ℕ, List, Option, refl, ap, sym, subst, ◌∙◌, inl, inr}
 use Rattle.outside_io.specs.Moved.{Rose}
 use Rattle.outside_io.specs.Texts.{Texts}
 use Rattle.edit_session.specs.declared.status.Which.TheVariants.{Map, Script}
@@ -7,11 +7,12 @@ use Rattle.edit_session.specs.declared.status.Status.{Status}
 use Rattle.edit_session.specs.declared.status.Status.TheVariants.{Ended, Usage, ReadFault, WriteFault, MapRefused, Memory, TooLong}
 use Rattle.edit_session.specs.declared.serve.Stop.{Stop}
 use Rattle.edit_session.specs.declared.serve.Stop.TheVariants.{TakeFailed, GiveFailed, TooLong as PastLimit}
-use Rattle.edit_session.specs.Devices.{Counts, counts_of}
+use Rattle.edit_session.specs.Devices.{Counts, counts_of, NoneFell, Unfetched}
 use Rattle.edit_session.specs.Serving.{StopCause, stop_status}
 use Rattle.edit_session.specs.Opening.{OpenCause}
 use Rattle.edit_session.specs.Keeping.{KeepCause, ServeCause}
-use Rattle.edit_session.specs.Says.{CausedBy}
+use Rattle.edit_session.specs.EditRun.{CausedBy}
+use Rattle.edit_session.specs.CheckRun.{SumCause, CheckCausedBy}
 
 -- Counts that are the same.
 same_counts : (f k t g f1 k1 t1 g1 : ℕ) → f1 ≡ f → k1 ≡ k → t1 ≡ t → g1 ≡ g → counts_of f1 k1 t1 g1 ≡ counts_of f k t g
@@ -67,16 +68,75 @@ unopened_cause ReadFault texts map f k t g f1 k1 g1 e c = (inl (c.0, refl), e, c
 unopened_cause WriteFault texts map f k t g f1 k1 g1 e c = (inl (c.0, e), c.1, refl)
 unopened_cause (MapRefused fault) texts map f k t g f1 k1 g1 e c = same_counts f k t g f1 k1 t g1 c.1 e refl c.0
 unopened_cause Memory texts map f k t g f1 k1 g1 e c = same_counts f k t g f1 k1 t g1 c.1 e refl c.0
-unopened_cause (TooLong which) texts map f k t g f1 k1 g1 e c = same_counts f k t g f1 k1 t g1 c.1 e refl c.0
+unopened_cause (TooLong Map) texts map f k t g f1 k1 g1 e c = same_counts f k t g f1 k1 t g1 c.1 e refl c.0
+unopened_cause (TooLong Script) texts map f k t g f1 k1 g1 e c = absurd c
 unopened_cause Usage texts map f k t g f1 k1 g1 e c = absurd c
 unopened_cause Ended texts map f k t g f1 k1 g1 e c = absurd c
 
+-- A read fault before the map was opened is the fetch's, and a write fault is the replies'.
+pub open_unfetched : (status : Status) (texts : Option Texts) (map : List ℕ) (f k t g f1 k1 t1 g1 : ℕ) → OpenCause status texts map f f1 g g1 → status ≡ ReadFault →
+    Unfetched texts map (counts_of f k t g) (counts_of f1 k1 t1 g1)
+open_unfetched status texts map f k t g f1 k1 t1 g1 c e = (at_read (subst (λ s. OpenCause s texts map f f1 g g1) e c))
+  where
+    at_read : OpenCause ReadFault texts map f f1 g g1 → Unfetched texts map (counts_of f k t g) (counts_of f1 k1 t1 g1)
+    at_read h = h.0
+
+pub open_ungiven : (status : Status) (texts : Option Texts) (map : List ℕ) (f g f1 g1 : ℕ) → OpenCause status texts map f f1 g g1 → status ≡ WriteFault → Rose g g1
+open_ungiven status texts map f g f1 g1 c e = (at_write (subst (λ s. OpenCause s texts map f f1 g g1) e c))
+  where
+    at_write : OpenCause WriteFault texts map f f1 g g1 → Rose g g1
+    at_write h = h.0
+
+-- No count fell after the map was opened, and none before.
+pub none_fell : (f k t g f1 k1 g1 : ℕ) (now : Counts) → f1 ≡ f → k1 ≡ k → g1 ≡ g → NoneFell (counts_of f1 k1 t g1) now → NoneFell (counts_of f k t g) now
+none_fell f k t g f1 k1 g1 now a b c h = subst (λ x. NoneFell x now) (same_counts f k t g f1 k1 t g1 a b refl c) h
+
+-- The causes of a run over the words `check MAP`.
+pub unopened_check_cause : (status : Status) (texts : Option Texts) (map : List ℕ) (f k t g f1 k1 g1 : ℕ) → k1 ≡ k → OpenCause status texts map f f1 g g1 →
+    CheckCausedBy status texts map (counts_of f k t g) (counts_of f1 k1 t g1)
+unopened_check_cause ReadFault texts map f k t g f1 k1 g1 e c = c
+unopened_check_cause WriteFault texts map f k t g f1 k1 g1 e c = c
+unopened_check_cause (MapRefused fault) texts map f k t g f1 k1 g1 e c = same_counts f k t g f1 k1 t g1 c.1 e refl c.0
+unopened_check_cause Memory texts map f k t g f1 k1 g1 e c = same_counts f k t g f1 k1 t g1 c.1 e refl c.0
+unopened_check_cause (TooLong Map) texts map f k t g f1 k1 g1 e c = same_counts f k t g f1 k1 t g1 c.1 e refl c.0
+unopened_check_cause (TooLong Script) texts map f k t g f1 k1 g1 e c = absurd c
+unopened_check_cause Usage texts map f k t g f1 k1 g1 e c = absurd c
+unopened_check_cause Ended texts map f k t g f1 k1 g1 e c = absurd c
+
+pub summed_cause : (status : Status) (texts : Option Texts) (map : List ℕ) (f k t g f1 k1 mid g1 : ℕ) → f1 ≡ f → k1 ≡ k → mid ≡ g → SumCause status mid g1 →
+    CheckCausedBy status texts map (counts_of f k t g) (counts_of f1 k1 t g1)
+summed_cause Ended texts map f k t g f1 k1 mid g1 a b c h = same_counts f k t g f1 k1 t g1 a b refl (h ∙ c)
+summed_cause WriteFault texts map f k t g f1 k1 mid g1 a b c h = (subst (λ n. Rose n g1) c h, a)
+summed_cause Usage texts map f k t g f1 k1 mid g1 a b c h = absurd h
+summed_cause ReadFault texts map f k t g f1 k1 mid g1 a b c h = absurd h
+summed_cause (MapRefused fault) texts map f k t g f1 k1 mid g1 a b c h = absurd h
+summed_cause Memory texts map f k t g f1 k1 mid g1 a b c h = absurd h
+summed_cause (TooLong which) texts map f k t g f1 k1 mid g1 a b c h = absurd h
+
+pub summed_ungiven : (status : Status) (g mid g1 : ℕ) → mid ≡ g → SumCause status mid g1 → status ≡ WriteFault → Rose g g1
+summed_ungiven status g mid g1 c h e = subst (λ n. Rose n g1) c (at_write (subst (λ s. SumCause s mid g1) e h))
+  where
+    at_write : SumCause WriteFault mid g1 → Rose mid g1
+    at_write r = r
+
+pub some_fell_not : (f k t g f1 k1 g1 : ℕ) → f ≤ f1 → k1 ≡ k → g ≤ g1 → NoneFell (counts_of f k t g) (counts_of f1 k1 t g1)
+some_fell_not f k t g f1 k1 g1 a e b = record { fetches = a; keeps = omega arith; takes = omega arith; gives = b }
+
+pub check_not_usage : (status : Status) (texts : Option Texts) (map : List ℕ) (before now : Counts) → CheckCausedBy status texts map before now → status ≢ Usage
+check_not_usage Usage texts map before now c e = c
+check_not_usage ReadFault texts map before now c e = cc
+check_not_usage WriteFault texts map before now c e = cc
+check_not_usage (MapRefused fault) texts map before now c e = cc
+check_not_usage Memory texts map before now c e = cc
+check_not_usage (TooLong which) texts map before now c e = cc
+check_not_usage Ended texts map before now c e = cc
+
 -- The status is that of the words' form.
-pub caused_usage : (status : Status) (texts : Option Texts) (map : List ℕ) (before now : Counts) → CausedBy status texts map before now → status ≢ Usage
-caused_usage Usage texts map before now c e = c
-caused_usage ReadFault texts map before now c e = cc
-caused_usage WriteFault texts map before now c e = cc
-caused_usage (MapRefused fault) texts map before now c e = cc
-caused_usage Memory texts map before now c e = cc
-caused_usage (TooLong which) texts map before now c e = cc
-caused_usage Ended texts map before now c e = cc
+pub edit_not_usage : (status : Status) (texts : Option Texts) (map : List ℕ) (before now : Counts) → CausedBy status texts map before now → status ≢ Usage
+edit_not_usage Usage texts map before now c e = c
+edit_not_usage ReadFault texts map before now c e = cc
+edit_not_usage WriteFault texts map before now c e = cc
+edit_not_usage (MapRefused fault) texts map before now c e = cc
+edit_not_usage Memory texts map before now c e = cc
+edit_not_usage (TooLong which) texts map before now c e = cc
+edit_not_usage Ended texts map before now c e = cc

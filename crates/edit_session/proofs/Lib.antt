@@ -1,8 +1,13 @@
-pub mod Boxed
 pub mod Causes
+pub mod CheckExits
+pub mod EditExits
 pub mod Exits
 pub mod Held
 pub mod Opens
 pub mod Quiet
 pub mod Reading
-pub mod ThreeWords
+pub mod SameWords
+pub mod Savable
+pub mod Spoken
+pub mod Telling
+pub mod WordLists

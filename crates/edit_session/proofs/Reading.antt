@@ -1,5 +1,7 @@
 -- Laws of reading a script, up to its end or to where it stopped.
-use Rattle.std.proofs.Common.{◌≡◌, ℕ, ◌+◌, ◌≤◌, List, [], ◌++◌, length, take, drop, Option, Some, None, IfSome, Result, Ok, Err, OnOk, OnErr, refl, ap, sym, subst, ◌∙◌, append_assoc, append-nil, arith, take-append-drop, length-append, length-take}
+use Rattle.std.proofs.Common.{◌≡◌, ℕ, ◌+◌, ◌≤◌, List, [], ◌∷◌, ◌++◌, length, take, drop, Option, Some, None, IfSome, Result, Ok, Err, OnOk, OnErr, refl, ap, sym, subst, ◌∙◌, append_assoc, append-nil, arith, take-append-drop, length-append, length-take}
+use Rattle.outside_io.specs.Moved.{Took}
+use Rattle.outside_io.specs.declared.faults.Failed.{Failed}
 use Rattle.line_machine.specs.Lines.{rest_from, last_line, lines_of, whole_lines}
 use Rattle.line_machine.specs.Machine.{Step}
 use Rattle.line_machine.specs.Served.{Served, ServedSoFar}
@@ -62,6 +64,52 @@ module _ {S : Type 0} (m : Step S) (held : ℕ) where
       let whole : all ≡ k.taken = k.all_is ∙ ap (λ x. k.taken ++ x) (h.end z) ∙ append-nil k.taken in
       let end : (o2 ≡ Some []) × InPiece m held [] all r t next g0 g2 = took_end m held all o count n r s t begun next o2 g0 g1 g2 z took k in
       (end.0, omega (arith, ap length whole, k.count_is, fits), end.1)
+
+  -- A piece was taken, and the lines that end in it were answered.
+  pub goes_on : (o : Option (List ℕ)) (n : ℕ) (o2 : Option (List ℕ)) (buf piece : List ℕ) (s t : S) (begun next : List ℕ) (g0 g1 : Option (List ℕ)) → piece ≡ take n buf →
+      IfSome o (λ bytes. Took (Ok n) bytes o2 buf) → ((before : List ℕ) → begun ≡ take held before → InPiece m held before piece s t next g0 g1) →
+      IfSome o (λ bytes. Goes m held n bytes o2 s begun t next g0 g1)
+  goes_on None n o2 buf piece s t begun next g0 g1 is took answered = tt
+  goes_on (Some bytes) n o2 buf piece s t begun next g0 g1 is took answered = record {
+    enough = took.enough;
+    rest = took.rest;
+    end = λ z. took.end (ap Ok z);
+    answered = λ before e. subst (λ p. InPiece m held before p s t next g0 g1) (is ∙ took.bytes) (answered before e);
+  }
+
+  -- At the limit nothing is left of the script.
+  pub took_nothing : (all : List ℕ) (o : Option (List ℕ)) (count n : ℕ) (s t : S) (begun : List ℕ) (o2 : Option (List ℕ)) (buf : List ℕ) (g0 g1 : Option (List ℕ)) → n ≡ 0 → count ≤ 67108864 →
+      IfSome o (λ bytes. Took (Ok n) bytes o2 buf) → Taken m held all o count s t begun g0 g1 → (o2 ≡ Some []) × (length all ≤ 67108864) × InPiece m held [] all s t begun g0 g1
+  took_nothing all o count n s t begun o2 buf g0 g1 z fits took k =
+      let h : Took (Ok n) k.left o2 buf = subst (λ x. IfSome x (λ bytes. Took (Ok n) bytes o2 buf)) k.now_is took in
+      let none : k.left ≡ [] = h.end (ap Ok z) in
+      let whole : k.taken ≡ all = sym (k.all_is ∙ ap (λ x. k.taken ++ x) none ∙ append-nil k.taken) in (
+        h.rest ∙ ap (λ i. Some (drop i k.left)) z ∙ ap Some none,
+        omega (arith, ap length whole, k.count_is, fits),
+        subst (λ x. InPiece m held [] x s t begun g0 g1) whole k.answered,
+      )
+
+  -- At the limit one byte more was taken.
+  one_more : (xs : List ℕ) (n : ℕ) → n ≡ 1 → n ≤ length xs → (x : ℕ) × (rest : List ℕ) × (xs ≡ x ∷ rest) × (drop n xs ≡ rest)
+  one_more [] n e h = absurd (omega (arith, e, h))
+  one_more (x ∷ xs) n e h = (x, xs, refl, ap (λ i. drop i (x ∷ xs)) e)
+
+  pub took_past : (all : List ℕ) (o : Option (List ℕ)) (count n : ℕ) (s t : S) (begun : List ℕ) (o2 : Option (List ℕ)) (buf : List ℕ) (g0 g1 : Option (List ℕ)) → count ≡ 67108864 → n ≡ 1 →
+      IfSome o (λ bytes. Took (Ok n) bytes o2 buf) → Taken m held all o count s t begun g0 g1 → (left : List ℕ) × (o2 ≡ Some left) × StoppedAt m s TooLong all left g0 g1
+  took_past all o count n s t begun o2 buf g0 g1 full one took k =
+      let h : Took (Ok n) k.left o2 buf = subst (λ x. IfSome x (λ bytes. Took (Ok n) bytes o2 buf)) k.now_is took in
+      let cut = one_more k.left n one h.enough in (
+        cut.1,
+        h.rest ∙ ap Some cut.3,
+        (k.taken, cut.0, t, k.all_is ∙ ap (λ x. k.taken ++ x) cut.2, k.count_is ∙ full, k.answered.served),
+      )
+
+  -- At the limit nothing could be taken.
+  pub took_failed : (all : List ℕ) (o : Option (List ℕ)) (count : ℕ) (why : Failed) (s t : S) (begun : List ℕ) (o2 : Option (List ℕ)) (buf : List ℕ) (g0 g1 : Option (List ℕ)) → count ≤ 67108864 →
+      IfSome o (λ bytes. Took (Err why) bytes o2 buf) → Taken m held all o count s t begun g0 g1 → (left : List ℕ) × (o2 ≡ Some left) × StoppedAt m s TakeFailed all left g0 g1
+  took_failed all o count why s t begun o2 buf g0 g1 fits took k =
+      let h : Took (Err why) k.left o2 buf = subst (λ x. IfSome x (λ bytes. Took (Err why) bytes o2 buf)) k.now_is took in
+      (k.left, h.rest, (k.taken, t, (k.all_is, omega (arith, k.count_is, fits)), k.answered.served))
 
   -- The last line is answered after the whole lines.
   pub script_served : (o o2 g0 g1 g2 : Option (List ℕ)) (s t u : S) (begun : List ℕ) → IfSome o (λ bytes. (o2 ≡ Some []) × (length bytes ≤ 67108864) × InPiece m held [] bytes s t begun g0 g1) →

@@ -37,10 +37,14 @@ HasNone texts name = IsSomeAnd texts (λ told. text_named told name ≡ None)
 abbrev pub TakenWithin : List ℕ → List ℕ → List ℕ → Type 0
 TakenWithin script taken left = (script ≡ taken ++ left) × (length taken ≤ LIMIT)
 
+-- The map could not be fetched.
+abbrev pub Unfetched : Option Texts → List ℕ → Counts → Counts → Type 0
+Unfetched texts map before now = Rose before.fetches now.fetches ⊎ HasNone texts map
+
 -- The map could not be fetched, or a piece of the script could not be taken; no other count moved.
 abbrev pub ReadCause : Option Texts → List ℕ → Counts → Counts → Type 0
 ReadCause texts map before now =
-    (((Rose before.fetches now.fetches ⊎ HasNone texts map) × (now.takes ≡ before.takes))
+    ((Unfetched texts map before now × (now.takes ≡ before.takes))
     ⊎ (Rose before.takes now.takes × (now.fetches ≡ before.fetches)))
     × (now.keeps ≡ before.keeps) × (now.gives ≡ before.gives)
 

@@ -1,10 +1,13 @@
+pub mod Tests
 pub mod Words
 pub mod Devices
 pub mod Numbers
 pub mod Serving
 pub mod Opening
 pub mod Keeping
-pub mod Says
+pub mod Found
+pub mod EditRun
+pub mod CheckRun
 pub mod Completeness
 pub use Rattle.outside_io.specs.Moved
 pub use Rattle.outside_io.specs.Texts

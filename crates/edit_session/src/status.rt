@@ -3,6 +3,8 @@
 ghost use Rattle.std.specs.Prelude.{◌≡◌};
 ghost use Rattle.edit_session.specs.Numbers.{number_of};
 
+use map_report::MapFault;
+
 /// How many bytes a map file may have, and a script.
 pub const LIMIT: usize = 67_108_864;
 
@@ -15,27 +17,20 @@ pub enum Which {
     Script,
 }
 
-/// Why a map is refused.
-#[derive(Clone, Copy, Debug, PartialEq, Eq, Drop)]
-pub enum MapFault {
-    /// The map isn't in the plain form: a Valve map of axis-aligned boxes.
-    NotBuilt,
-}
-
 /// How a run ended. Each has its number, which the program ends with.
 #[derive(Clone, Copy, Debug, PartialEq, Eq, Drop)]
 pub enum Status {
-    /// 0: the script was read to its end, and the last map was kept.
+    /// 0: for `edit`, the script was read to its end, and the last map was kept; for `check`, the summary was given.
     Ended,
     /// 1: the words are of no form; nothing was read or written.
     Usage,
     /// 2: the map or the script couldn't be read, or there is no such map.
     ReadFault,
-    /// 3: a reply couldn't be given, or the last map couldn't be kept.
+    /// 3: a line couldn't be given, or the last map couldn't be kept.
     WriteFault,
-    /// 4: the map was read and refused, and its one line was given.
+    /// 4: the map was read and refused, for this, and its one line was given. Want of memory is no such cause.
     MapRefused(MapFault),
-    /// 5: there was no memory, before the first line or after the last one.
+    /// 5: there was no memory, before the first line of the opening or after the last line of the script.
     Memory,
     /// 6: the map file or the script has more than 64 MiB.
     TooLong(Which),

@@ -1,28 +1,57 @@
-use Rattle.edit_session.proofs.Causes.{caused_usage}
+use Rattle.std.proofs.Common.{◌≡◌, map, string_bytes}
+use Rattle.edit_session.specs.declared.status.Status.TheVariants.{Usage}
+use Rattle.edit_session.specs.Devices.{told_of, counts_of}
+use Rattle.edit_session.specs.EditRun.{EditRun}
+use Rattle.edit_session.specs.CheckRun.{CheckRun}
+use Rattle.edit_session.proofs.SameWords.{edit_only, check_only, two_forms, edit_form, check_form}
+use Rattle.edit_session.proofs.Causes.{edit_not_usage, check_not_usage}
 use Rattle.edit_session.proofs.whole_run.run.Goals as goal
 
-pub returns-clause-usage : goal.returns-clause-usage
-returns-clause-usage g c = λ e.
-    absurd (caused_usage c.run_edit.result (g.V.Vault.texts c.args.vault.now) c.in-Some.edit.map.now
-    (record { fetches = g.V.Vault.fetch_faults c.args.vault.now; keeps = g.V.Vault.keep_faults c.args.vault.now; takes = g.C.Source.faults c.args.script.now; gives = g.R.Sink.faults c.args.replies.now })
-    (record { fetches = g.V.Vault.fetch_faults c.run_edit.new.vault; keeps = g.V.Vault.keep_faults c.run_edit.new.vault; takes = g.C.Source.faults c.run_edit.new.script; gives = g.R.Sink.faults c.run_edit.new.replies })
-    c.run_edit.ensures.cause e)
+pub returns-in-Some-clause-usage : goal.returns-in-Some-clause-usage
+returns-in-Some-clause-usage g c =
+    edit_form (map string_bytes c.args.words.now) c.in-Some.edit.map.now c.in-Some.edit.out.now (c.run_edit.result ≡ Usage) c.in-Some.ensures.edit
+    (λ e. edit_not_usage c.run_edit.result (g.V.Vault.texts c.args.vault.now) c.in-Some.edit.map.now _ _ c.run_edit.ensures.cause e)
 
-pub returns-clause-untouched : goal.returns-clause-untouched
-returns-clause-untouched g c = λ e.
-    absurd (caused_usage c.run_edit.result (g.V.Vault.texts c.args.vault.now) c.in-Some.edit.map.now
-    (record { fetches = g.V.Vault.fetch_faults c.args.vault.now; keeps = g.V.Vault.keep_faults c.args.vault.now; takes = g.C.Source.faults c.args.script.now; gives = g.R.Sink.faults c.args.replies.now })
-    (record { fetches = g.V.Vault.fetch_faults c.run_edit.new.vault; keeps = g.V.Vault.keep_faults c.run_edit.new.vault; takes = g.C.Source.faults c.run_edit.new.script; gives = g.R.Sink.faults c.run_edit.new.replies })
-    c.run_edit.ensures.cause e)
+pub returns-in-Some-clause-untouched : goal.returns-in-Some-clause-untouched
+returns-in-Some-clause-untouched g c = λ e.
+    absurd (edit_not_usage c.run_edit.result (g.V.Vault.texts c.args.vault.now) c.in-Some.edit.map.now _ _ c.run_edit.ensures.cause e)
 
-pub returns-clause-edit : goal.returns-clause-edit
-returns-clause-edit g c = λ n. record {
-  map = c.in-Some.edit.map.now;
-  out = c.in-Some.edit.out.now;
-  edit = c.in-Some.ensures.edit;
-  says = c.run_edit.ensures.says;
-  cause = c.run_edit.ensures.cause;
-  unkept = c.run_edit.ensures.unkept;
-  unread = c.run_edit.ensures.unread;
-  later = c.run_edit.ensures.later;
-}
+pub returns-in-Some-clause-edit : goal.returns-in-Some-clause-edit
+returns-in-Some-clause-edit g c = λ name other is.
+    edit_only
+    (λ n o. EditRun n o c.run_edit.result (g.V.Vault.texts c.args.vault.now)
+    (told_of (g.C.Source.left c.args.script.now) (g.R.Sink.given c.args.replies.now) (g.V.Vault.kept c.args.vault.now))
+    (told_of (g.C.Source.left c.run_edit.new.script) (g.R.Sink.given c.run_edit.new.replies) (g.V.Vault.kept c.run_edit.new.vault))
+    (counts_of (g.V.Vault.fetch_faults c.args.vault.now) (g.V.Vault.keep_faults c.args.vault.now) (g.C.Source.faults c.args.script.now) (g.R.Sink.faults c.args.replies.now))
+    (counts_of (g.V.Vault.fetch_faults c.run_edit.new.vault) (g.V.Vault.keep_faults c.run_edit.new.vault) (g.C.Source.faults c.run_edit.new.script) (g.R.Sink.faults c.run_edit.new.replies)))
+    (map string_bytes c.args.words.now) c.in-Some.edit.map.now c.in-Some.edit.out.now name other c.in-Some.ensures.edit c.run_edit.ensures is
+
+pub returns-in-Some-clause-check : goal.returns-in-Some-clause-check
+returns-in-Some-clause-check g c = λ name is.
+    absurd (two_forms (map string_bytes c.args.words.now) c.in-Some.edit.map.now c.in-Some.edit.out.now name c.in-Some.ensures.edit is)
+
+pub returns-in-Some-read_check-clause-usage : goal.returns-in-Some-read_check-clause-usage
+returns-in-Some-read_check-clause-usage g c =
+    let run = c.run_check.ensures (g.C.Source.left c.args.script.now) (g.C.Source.faults c.args.script.now) in
+    check_form (map string_bytes c.args.words.now) c.in-Some-read_check.map.now (c.run_check.result ≡ Usage) c.in-Some-read_check.ensures.check
+    (λ e. check_not_usage c.run_check.result (g.V.Vault.texts c.args.vault.now) c.in-Some-read_check.map.now _ _ run.cause e)
+
+pub returns-in-Some-read_check-clause-untouched : goal.returns-in-Some-read_check-clause-untouched
+returns-in-Some-read_check-clause-untouched g c = λ e.
+    let run = c.run_check.ensures (g.C.Source.left c.args.script.now) (g.C.Source.faults c.args.script.now) in
+    absurd (check_not_usage c.run_check.result (g.V.Vault.texts c.args.vault.now) c.in-Some-read_check.map.now _ _ run.cause e)
+
+pub returns-in-Some-read_check-clause-edit : goal.returns-in-Some-read_check-clause-edit
+returns-in-Some-read_check-clause-edit g c = λ name out is.
+    absurd (two_forms (map string_bytes c.args.words.now) name out c.in-Some-read_check.map.now is c.in-Some-read_check.ensures.check)
+
+pub returns-in-Some-read_check-clause-check : goal.returns-in-Some-read_check-clause-check
+returns-in-Some-read_check-clause-check g c = λ name is.
+    check_only
+    (λ n. CheckRun n c.run_check.result (g.V.Vault.texts c.args.vault.now)
+    (told_of (g.C.Source.left c.args.script.now) (g.R.Sink.given c.args.replies.now) (g.V.Vault.kept c.args.vault.now))
+    (told_of (g.C.Source.left c.args.script.now) (g.R.Sink.given c.run_check.new.replies) (g.V.Vault.kept c.run_check.new.vault))
+    (counts_of (g.V.Vault.fetch_faults c.args.vault.now) (g.V.Vault.keep_faults c.args.vault.now) (g.C.Source.faults c.args.script.now) (g.R.Sink.faults c.args.replies.now))
+    (counts_of (g.V.Vault.fetch_faults c.run_check.new.vault) (g.V.Vault.keep_faults c.run_check.new.vault) (g.C.Source.faults c.args.script.now) (g.R.Sink.faults c.run_check.new.replies)))
+    (map string_bytes c.args.words.now) c.in-Some-read_check.map.now name c.in-Some-read_check.ensures.check
+    (c.run_check.ensures (g.C.Source.left c.args.script.now) (g.C.Source.faults c.args.script.now)) is

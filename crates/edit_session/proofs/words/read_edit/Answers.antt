@@ -1,7 +1,7 @@
 use Rattle.std.proofs.Common.{◌≡◌, subst, sym, ap, ◌∙◌, ◌∷◌, [], string_bytes, codes, IsTrue, true, Bool, arith}
 use Rattle.edit_session.specs.Words.{AreNames}
-use Rattle.edit_session.proofs.ThreeWords.{three_words}
-use Rattle.edit_session.proofs.words.read_words.Goals as goal
+use Rattle.edit_session.proofs.WordLists.{three_words}
+use Rattle.edit_session.proofs.words.read_edit.Goals as goal
 
 if_not : {b : Bool} → b ≡ true → IsTrue b
 if_not e = e
