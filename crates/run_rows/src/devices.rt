@@ -84,11 +84,7 @@ fn script(alloc: Global, case: &Case<'_>, piece: u32) -> Result<MemSource, CaseF
         return Err(CaseFault::Number);
     }
     let text = case.marked(alloc, '>')?;
-    Ok(MemSource::new(
-        text,
-        piece as usize,
-        case.numbers(alloc, "script fails")?,
-    ))
+    Ok(MemSource::new(text, piece as usize, case.numbers(alloc, "script fails")?))
 }
 
 impl Devices {
