@@ -137,6 +137,10 @@ def solid(case):
 
 
 def hull(case, row):
+    times, _, again = row.rpartition(b' times ')
+    if times:
+        (found,) = hull(case, again)
+        return [b'= %d times Some(%d)' % (int(times), found.count(b'[') - 1)]
     points = triples(integers(row.replace(b'%', b'')))
     distinct = brushes.distinct(points)
     if len(distinct) > 512:
@@ -233,7 +237,7 @@ def cuts(case):
     return [b'= %d to %d: %s' % tuple(stretch) for stretch in found]
 
 
-# Words and arenas
+# Words
 
 COMMANDS = (b'box hull delete copy move turn flip clip subtract intersect merge hollow vertex snap material tex lock uv convert entity set '
             b'unset tie untie layer freeze thaw group ungroup into link unlink protect unprotect undo redo show tree pick touching').split()
@@ -248,30 +252,6 @@ def place(words, word):
 def three(case, row):
     *words, sought = [unspelled(word) for word in row.split()]
     return place(words, sought) if len(set(words)) == 3 else [b'= no table']
-
-
-def arena(case):
-    """One answer for each row, so the lines are given whole."""
-    values, found = [], []
-    for text in case.lines:
-        found.append(text)
-        if not text.startswith(b'> '):
-            continue
-        what, *numbers = text[2:].split()
-        numbers = [int(number) for number in numbers]
-        if what == b'insert':
-            values.append(numbers[0])
-            found.append(b'= value %d' % (len(values) - 1))
-        elif what == b'count':
-            found.append(b'= %d' % sum(value is not None for value in values))
-        else:
-            old = values[numbers[0]]
-            found.append(b'= None' if old is None else b'= Some(%d)' % old)
-            if what == b'take':
-                values[numbers[0]] = None
-            elif what == b'replace' and old is not None:
-                values[numbers[0]] = numbers[1]
-    return found
 
 
 # What a row of a table asks, and what a whole case asks, by the kind of the case

@@ -17,10 +17,13 @@ sys.dont_write_bytecode = True
 sys.path.insert(0, sys.argv[1])
 import stages
 from cases import Case, NoCase
-from part_answers import CASES, ROWS, arena
+from part_answers import CASES, ROWS
 from run_answers import run
+import shape_answers
+import tree_answers
 
 CASES[b'run'] = run
+WHOLE = {**shape_answers.WHOLE, **tree_answers.WHOLE}
 
 # How the lines of a case begin
 PARTS = (b'#', b'>', b'|', b'pieces: ', b'vault fails: ', b'script fails: ', b'replies fail: ', b'before: ', b'behind: ', b'limit: ',
@@ -39,8 +42,8 @@ def answered(text, texts):
             if line.startswith(b'> '):
                 found += ROWS[case.kind](case, line[2:])
         return found
-    if case.kind == b'arena':
-        return arena(case)
+    if case.kind in WHOLE:
+        return WHOLE[case.kind](case)
     if case.kind in CASES:
         return case.lines + CASES[case.kind](case)
     if case.kind == b'text':
