@@ -31,7 +31,7 @@ next_sides [] (x ∷ more) zero s l e = ap (λ t. t ∷ []) e
 next_sides [] (x ∷ more) (suc i) s l e = ap (λ t. x ∷ t) (next_sides [] more i s (omega arith) e)
 next_sides (x ∷ first) more i s l e = ap (λ t. x ∷ t) (next_sides first more i s l e)
 
-dropped : (more : List Side) (i : ℕ) (s : Side) → i < length more → s ≡ get_or more i s → drop i more ≡ s ∷ drop (suc i) more
+pub dropped : (more : List Side) (i : ℕ) (s : Side) → i < length more → s ≡ get_or more i s → drop i more ≡ s ∷ drop (suc i) more
 dropped [] i s l e = absurd (omega arith)
 dropped (x ∷ more) zero s l e = ap (λ t. t ∷ more) (sym e)
 dropped (x ∷ more) (suc i) s l e = dropped more i s (omega arith) e
