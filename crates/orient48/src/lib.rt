@@ -17,3 +17,4 @@ pub use laws::motions_law;
 pub use motion::Motion;
 pub use orient::Orient;
 pub use texts::{read_motion, write_motion};
+pub use words::first_word;

@@ -22,8 +22,9 @@ fn past_blanks(text: &[u8]) -> &[u8]
     &[]
 }
 
-/// The first word of a text, and what stands behind the blanks that follow it; `None` where none do.
-pub(crate) fn first_word(text: &[u8]) -> (&[u8], Option<&[u8]>)
+/// The first word of a text as blanks cut it, and what stands behind the blanks that follow it; `None` where none do. A text that
+/// begins with a blank has an empty first word. Blanks are spaces, tabs, carriage returns and line feeds.
+pub fn first_word(text: &[u8]) -> (&[u8], Option<&[u8]>)
     ensures { words_of text.now ≡ result.0.now ∷ words_left (option_copied result.1) }
 {
     for (len, &byte) in text.iter().enumerate() {
