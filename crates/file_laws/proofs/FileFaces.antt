@@ -25,7 +25,7 @@ use Rattle.map_model.specs.Faces.{Face}
 use Rattle.map_model.specs.Shape.{FaceOk, FacesOk, half_spaces}
 use Rattle.map_model.specs.Below.{Below, IsRight}
 use Rattle.map_model.specs.Brushes.{is_same_half_space, have_one_half_space, trimmed_from, trimmed, put_if}
-use Rattle.map_model.specs.Build.{faces_judged}
+use Rattle.map_model.specs.Judged.{faces_judged}
 use Rattle.file_laws.proofs.Lists.{in_map, of_map, none_of}
 
 -- ---- half-spaces that are one by numbers

@@ -4,7 +4,7 @@ use Rattle.map_model.specs.Tree.{Whole}
 use Rattle.map_model.specs.Shape.{Shape}
 use Rattle.map_model.specs.Below.{Below, IsRight}
 use Rattle.orient48.specs.MotionTexts.{motion_text, read_motion}
-use Rattle.map_model.specs.Build.{faces_judged}
+use Rattle.map_model.specs.Judged.{faces_judged}
 use Rattle.map_model.specs.Links.{AllOne}
 use Rattle.file_laws.specs.Leaves.{Leaves, AreRight}
 use Rattle.map_model.specs.Saved as model

@@ -24,7 +24,6 @@ use Rattle.map_text.specs.declared.document.MapDoc.{MapDoc}
 use Rattle.map_text.specs.declared.document.RawEntity.{RawEntity}
 use Rattle.map_text.specs.declared.document.RawBrush.{RawBrush}
 use Rattle.map_model.specs.Saved.{saved}
-use Rattle.map_model.specs.Build.{Note, TreeFault, Built, build}
 use Rattle.map_model.specs.Machine.{State, obey, open_at, current, answer_text}
 
 -- What a row computes is laid open.
@@ -81,19 +80,12 @@ tried m cs =
 abbrev pub saved_after : Whole → List Command → MapDoc
 saved_after m cs = saved (current (session (open_at m) cs).1)
 
--- A document as entities, and what it is built as: what stands at each number, the next number, and the notes.
+-- A document as entities.
 abbrev pub raw : List (List ℕ × List ℕ) → List RawBrush → RawEntity
 raw props brushes = record { props = props; brushes = brushes }
 
 abbrev pub doc : Format → List RawEntity → MapDoc
 doc format entities = record { format = format; entities = entities }
-
-abbrev pub seen : Result Built TreeFault → Result (List (Option Node) × ℕ × List Note) TreeFault
-seen (Ok built) = Ok (map (at built.map) (all_numbers built.map), built.map.next, built.notes)
-seen (Err fault) = Err fault
-
-abbrev pub built : MapDoc → Result (List (Option Node) × ℕ × List Note) TreeFault
-built d = seen (build by_vertices d)
 
 -- What stands at each number of a map, and the next number.
 abbrev pub listed : Whole → List (Option Node) × ℕ

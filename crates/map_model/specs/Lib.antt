@@ -22,9 +22,8 @@ pub mod Machine
 pub mod Session
 pub mod History
 pub mod Saved
-pub mod Build
+pub mod Judged
 pub mod Meant
-pub mod ReadAgain
-pub mod Opening
+pub mod Counts
 pub mod Generator
 pub mod Promises

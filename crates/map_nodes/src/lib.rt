@@ -15,6 +15,7 @@ mod props;
 mod renumbering;
 mod same_faces;
 mod sameness;
+mod sides;
 
 pub use body::Body;
 pub use entry::Entry;
@@ -22,3 +23,4 @@ pub use link::Link;
 pub use node::Node;
 pub use node_id::NodeId;
 pub use props::Props;
+pub use sides::sides_of;

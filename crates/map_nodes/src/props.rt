@@ -7,6 +7,7 @@ ghost use Rattle.map_text.specs.Meaning.{put_property, value_of_key};
 ghost use Rattle.map_text.specs.Spelled.{keys_are_distinct};
 ghost use Rattle.map_nodes.specs.Pairs.{without_key};
 
+use fixed_num::Text;
 use indexmap::IndexMap;
 use std::alloc::{AllocError, Global};
 use std::marker::Model;
@@ -78,8 +79,18 @@ impl Props {
         ensures ok { OnOk result (self.new ≡ put_property key.now value.now self.old) }
         ensures err { OnErr result (self.new ≡ self.old) }
     {
-        let own_key = Vec::from_slice(alloc, key)?;
-        let own_value = Vec::from_slice(alloc, value)?;
+        let own_key = Text::of(alloc, key)?;
+        let own_value = Text::of(alloc, value)?;
+        self.put(own_key, own_value)
+    }
+
+    /// What `set` does, with texts that the pair takes over. Their bytes aren't copied.
+    pub fn put(&mut self, key: Text, value: Text) -> Result<(), AllocError>
+        ensures ok { OnOk result (self.new ≡ put_property key value self.old) }
+        ensures err { OnErr result (self.new ≡ self.old) }
+    {
+        let own_key = key.into_vec();
+        let own_value = value.into_vec();
         match self.pairs.insert(own_key, own_value) {
             Ok(_) => Ok(()),
             Err(_) => Err(AllocError),

@@ -18,7 +18,7 @@ use Rattle.map_model.specs.Faces.{Face}
 use Rattle.map_model.specs.Shape.{half_spaces}
 use Rattle.map_model.specs.Below.{Below, IsRight}
 use Rattle.map_model.specs.Brushes.{trimmed}
-use Rattle.map_model.specs.Build.{faces_judged}
+use Rattle.map_model.specs.Judged.{faces_judged}
 use Rattle.map_model.proofs.Meaning.{trimmed_law, judged_law}
 use Rattle.map_model.proofs.SomeRight.{some_are_right}
 use Rattle.file_laws.specs.FileLeaves.{file_leaves}

@@ -2,7 +2,7 @@
 use Rattle.std.proofs.Common.{◌≡◌, ℕ, ◌==◌, false, List, [], ◌∷◌, length, filter_map, Option, None, option_map, refl, ap, sym}
 use Rattle.map_model.specs.Tree.{Whole, is_linked, set_at, live}
 use Rattle.map_model.specs.Brushes.{first_of_each}
-use Rattle.map_model.specs.Opening.{link_count}
+use Rattle.map_model.specs.Counts.{link_count}
 use Rattle.file_laws.proofs.Candidates.{no_link_at}
 
 none_mapped : (f : ℕ → Option ℕ) (ns : List ℕ) → ((n : ℕ) → f n ≡ None) → filter_map f ns ≡ []

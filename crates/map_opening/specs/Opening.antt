@@ -11,7 +11,7 @@ use Rattle.map_report.specs.declared.summary.Summary.TheVariants.{Map}
 use Rattle.map_report.specs.Reports.{note_line, fault_line}
 use Rattle.map_model.specs.Tree.{Whole, format_of}
 use Rattle.map_model.specs.Below.{Below, IsRight}
-use Rattle.map_model.specs.Opening.{node_count, brush_count, link_count}
+use Rattle.map_model.specs.Counts.{node_count, brush_count, link_count}
 use Rattle.file_laws.specs.FileLeaves.{file_leaves}
 use Rattle.file_laws.specs.Build.{begins_with_world}
 use Rattle.file_laws.specs.Build as why

@@ -2,7 +2,7 @@
 
 ghost use Rattle.std.specs.Prelude.{◌≡◌, ◌==◌, ◌&&◌, is_some, not};
 ghost use Rattle.map_model.specs.Tree.{whole, at, format_of, is_brush};
-ghost use Rattle.map_model.specs.Opening.{node_count, brush_count};
+ghost use Rattle.map_model.specs.Counts.{node_count, brush_count};
 ghost use Rattle.map_opening.specs.Opening.{summary_of};
 
 use map_nodes::{Node, NodeId};

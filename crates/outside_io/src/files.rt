@@ -5,9 +5,10 @@ ghost use Rattle.std.specs.Prelude.{◌≡◌, ◌≤◌, None, true, IfOk, vec_
 use crate::calls::raised;
 use crate::faults::{Failed, FetchEnd};
 use crate::vault::Vault;
+use crate::whole_streams::{read_whole, write_whole};
 use std::fs::{File, OpenFile};
 use std::io;
-use std::io::{ErrorKind, Read, Write};
+use std::io::ErrorKind;
 use std::rt::Files;
 
 /// A vault over the files that the runtime reaches, each under its path. Each error of a file is a
@@ -70,19 +71,17 @@ impl<R: Files> Vault for FileVault<R> {
 fn read_file<R: Files>(rt: &R, path: &str, limit: usize, out: &mut Vec<u8>) -> io::Result<bool>
     ensures { IfOk result (λ fits. fits ≡ true → vec_len out.new ≤ limit) }
 {
-    out.clear();
     let file = File::open(rt, path)?;
     // Room for the whole file at once, and for the read that finds its end. The size is a hint
     // alone: not every file knows it.
     let size = file.metadata().map_or(0, |metadata| metadata.len());
     let most = (limit as u64).saturating_add(1);
+    out.clear();
     out.reserve_exact(size.min(most).saturating_add(1) as usize)?;
-    file.take(most).read_to_end(out)?;
-    Ok(out.len() <= limit)
+    read_whole(file, limit, out)
 }
 
 fn write_file<R: Files>(rt: &R, path: &str, bytes: &[u8]) -> io::Result<()> {
     let mut file = File::create(rt, path)?;
-    file.write_all(bytes)?;
-    file.flush()
+    write_whole(&mut file, bytes)
 }

@@ -22,6 +22,7 @@ mod sure_vault;
 mod texts;
 mod vault;
 mod whole;
+mod whole_streams;
 
 pub use faults::{Failed, FetchEnd};
 pub use files::FileVault;
@@ -35,3 +36,4 @@ pub use sure::{SureSink, SureSource};
 pub use sure_vault::SureVault;
 pub use vault::Vault;
 pub use whole::give_all;
+pub use whole_streams::{read_whole, write_whole};

@@ -38,7 +38,7 @@ use Rattle.exact_geom.specs.declared.point.Point.{Point}
 use Rattle.map_model.specs.Faces.{Face, StandardFields}
 use Rattle.map_model.specs.Shape.{half_spaces}
 use Rattle.map_model.specs.Below.{Below, IsRight}
-use Rattle.map_model.specs.Build.{faces_judged}
+use Rattle.map_model.specs.Judged.{faces_judged}
 use Rattle.map_model.specs.Brushes.{trimmed}
 use Rattle.map_model.specs.Meant as meant
 use Rattle.map_model.specs.Computed.{is_in}

@@ -19,7 +19,7 @@ use Rattle.map_text.specs.Spelled.{is_spelled_brush, is_savable_face, is_savable
 use Rattle.map_model.specs.Faces.{Face, Tex, StandardFields, ValveFields, format_of_tex}
 use Rattle.map_model.specs.Shape.{FaceOk, FacesOk, half_spaces, is_tex_in_range}
 use Rattle.map_model.specs.Below.{Below, IsRight}
-use Rattle.map_model.specs.Build.{faces_judged}
+use Rattle.map_model.specs.Judged.{faces_judged}
 use Rattle.map_model.specs.Brushes.{trimmed}
 use Rattle.map_model.specs.Motions.{Motion, vector_at, is_kept_motion}
 use Rattle.map_model.specs.Meant as meant

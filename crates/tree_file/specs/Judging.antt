@@ -4,7 +4,7 @@ use Rattle.map_text.specs.declared.document.RawBrush.{RawBrush}
 use Rattle.map_text.specs.declared.document.Reason.{Reason}
 use Rattle.map_model.specs.Faces.{Face}
 use Rattle.map_model.specs.Below.{Below, IsRight}
-use Rattle.map_model.specs.Build.{faces_judged}
+use Rattle.map_model.specs.Judged.{faces_judged}
 use Rattle.file_laws.specs.FileLeaves.{file_leaves}
 use Rattle.file_laws.specs.Readings.{judged}
 
