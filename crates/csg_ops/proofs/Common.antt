@@ -1,11 +1,12 @@
 -- What several brushes have in common.
 use Rattle.std.proofs.Common.{◌≡◌, ℕ, zero, suc, ◌+◌, ◌<◌, ◌≤◌, List, [], ◌∷◌, ◌++◌, length, take, drop, get_or, append_assoc, append-nil, add-one, refl, sym, ap, subst, ◌∙◌, arith}
-use Rattle.std.proofs.lemmas.List.{take_all}
+use Rattle.std.proofs.lemmas.List.{take_all, length-map, length-append}
 use Rattle.algebra.specs.Members.{◌∈◌, here, there}
 use Rattle.trim_laws.specs.Trim.{TrimsFaces, no_faces, keeps_face, drops_face}
 use Rattle.solid_brush.specs.declared.side.Side.{Side}
-use Rattle.solid_brush.specs.Sides.{bounds, DistinctTags, no_sides, one_more_side, HaveTags}
+use Rattle.solid_brush.specs.Sides.{bounds, DistinctTags, no_sides, one_more_side, HaveTags, IsSolid}
 use Rattle.solid_brush.specs.Blocks.{IsEmpty, IsTrimmedTo}
+use Rattle.solid_brush.proofs.Meeting.{few_sides}
 use Rattle.csg_ops.specs.Cuts.{all_sides, IsFirstApart}
 
 -- ---- tags of what is trimmed, and of what comes behind it
@@ -66,3 +67,25 @@ common_at_start (x ∷ solids) s block l e t = subst (λ all. IsTrimmedTo all bl
 
 pub all_common : (solids : List (List Side)) (k : ℕ) (block : List Side) → length solids ≤ k → IsTrimmedTo (all_sides (take k solids)) block → IsTrimmedTo (all_sides solids) block
 all_common solids k block l t = subst (λ list. IsTrimmedTo (all_sides list) block) (take_all k solids l) t
+
+-- ---- how many solids there are, by the count of their sides
+pub first_counted : (n : ℕ) → 1 ≤ n + 1
+first_counted n = omega arith
+
+counted_plain : (k m n both : ℕ) → k ≤ m + 1 → 4 ≤ n → both ≡ m + n → k + 1 ≤ both
+counted_plain k m n both h f e = omega arith
+
+module _ (solids : List (List Side)) (k : ℕ) (s : List Side) (l : k < length solids) (e : s ≡ get_or solids k s) (solid : IsSolid s) where
+  -- A solid has four sides at least.
+  with_next : k ≤ length (all_sides (take k solids)) + 1 → k + 1 ≤ length (all_sides (take (k + 1) solids))
+  with_next h = counted_plain k (length (all_sides (take k solids))) (length s) (length (all_sides (take (k + 1) solids))) h
+      (subst (λ n. 4 ≤ n) (length-map s bounds) solid.brush.least)
+      (ap length (sym (next_common solids k s l e ∙ ap (λ n. all_sides (take n solids)) (sym (add-one k)))) ∙ length-append (all_sides (take k solids)) s)
+
+  pub next_counted : k ≤ length (all_sides (take k solids)) + 1 → k + 1 ≤ length (all_sides (take (k + 1) solids)) + 1
+  next_counted h = let m = with_next h in omega arith
+
+  pub at_most_all : HaveTags (all_sides solids) → k ≤ length (all_sides (take k solids)) + 1 → k < 2 ^ 32
+  at_most_all tags h =
+      let m = with_next h in
+      let n = few_sides (all_sides (take (k + 1) solids)) (tags_left (all_sides (take (k + 1) solids)) (all_sides (drop (k + 1) solids)) (subst HaveTags (sym (parts solids (k + 1))) tags)) in omega arith

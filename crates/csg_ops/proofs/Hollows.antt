@@ -115,7 +115,7 @@ left_in [] b f m = elim m [ ]
 left_in (x ∷ a) b f here = here
 left_in (x ∷ a) b f (there m) = there (left_in a b f m)
 
-right_in : (a b : List Side) (f : HalfSpace) → f ∈ half_spaces b → f ∈ half_spaces (a ++ b)
+pub right_in : (a b : List Side) (f : HalfSpace) → f ∈ half_spaces b → f ∈ half_spaces (a ++ b)
 right_in [] b f m = m
 right_in (x ∷ a) b f m = there (right_in a b f m)
 

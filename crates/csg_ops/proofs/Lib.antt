@@ -4,3 +4,7 @@ pub mod Pieces
 pub mod Overfull
 pub mod MovedPlanes
 pub mod Hollows
+pub mod Facing
+pub mod Extents
+pub mod ShortSides
+pub mod ShortVertices

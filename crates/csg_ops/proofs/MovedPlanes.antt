@@ -99,14 +99,14 @@ axis_of n h = axis_by n (int_eq n.x (pos 0)) (int_eq n.y (pos 0)) (int_eq n.z (p
 
 -- ---- the side of a plane along an axis, by a point on it
 -- a u + b v + c w - d e, where a x + b y + c z - d is 0, and two of a, b, c are 0
-alone : (a b c d u v w e x y z : ℤ) → b ≡ pos 0 → c ≡ pos 0 → (a *ℤ x +ℤ b *ℤ y +ℤ c *ℤ z -ℤ d *ℤ pos 1) ≡ pos 0 → a *ℤ u +ℤ b *ℤ v +ℤ c *ℤ w -ℤ d *ℤ e ≡ a *ℤ (u -ℤ x *ℤ e)
+pub alone : (a b c d u v w e x y z : ℤ) → b ≡ pos 0 → c ≡ pos 0 → (a *ℤ x +ℤ b *ℤ y +ℤ c *ℤ z -ℤ d *ℤ pos 1) ≡ pos 0 → a *ℤ u +ℤ b *ℤ v +ℤ c *ℤ w -ℤ d *ℤ e ≡ a *ℤ (u -ℤ x *ℤ e)
 alone a b c d u v w e x y z p q h =
     let k : (a *ℤ x +ℤ pos 0 *ℤ y +ℤ pos 0 *ℤ z -ℤ d *ℤ pos 1) ≡ pos 0 = ap (λ m. a *ℤ x +ℤ m *ℤ y +ℤ pos 0 *ℤ z -ℤ d *ℤ pos 1) (sym p) ∙ ap (λ m. a *ℤ x +ℤ b *ℤ y +ℤ m *ℤ z -ℤ d *ℤ pos 1) (sym q) ∙ h in
     let j : a *ℤ x ≡ d = (let r : (a *ℤ x +ℤ pos 0 *ℤ y +ℤ pos 0 *ℤ z -ℤ d *ℤ pos 1) ≡ a *ℤ x -ℤ d = ring (a ∷ d ∷ x ∷ y ∷ z ∷ []) (search read depth 20) tt in omega (arith, ints)) in
     ap (λ m. a *ℤ u +ℤ m *ℤ v +ℤ c *ℤ w -ℤ d *ℤ e) p ∙ ap (λ m. a *ℤ u +ℤ pos 0 *ℤ v +ℤ m *ℤ w -ℤ d *ℤ e) q
     ∙ ap (λ m. a *ℤ u +ℤ pos 0 *ℤ v +ℤ pos 0 *ℤ w -ℤ m *ℤ e) (sym j) ∙ ring (a ∷ u ∷ v ∷ w ∷ e ∷ x ∷ []) (search read depth 20) tt
 
-turn : (a b c d : ℤ) (u v w e : ℤ) → a *ℤ u +ℤ b *ℤ v +ℤ c *ℤ w -ℤ d *ℤ e ≡ b *ℤ v +ℤ c *ℤ w +ℤ a *ℤ u -ℤ d *ℤ e
+pub turn : (a b c d : ℤ) (u v w e : ℤ) → a *ℤ u +ℤ b *ℤ v +ℤ c *ℤ w -ℤ d *ℤ e ≡ b *ℤ v +ℤ c *ℤ w +ℤ a *ℤ u -ℤ d *ℤ e
 turn a b c d u v w e = ring (a ∷ b ∷ c ∷ d ∷ u ∷ v ∷ w ∷ e ∷ []) (search read depth 20) tt
 
 range_of : (a b c : ℕ) → a ≤ 4352 → b ≤ 4352 → c ≤ 4352 → (nat_le a 4352 && nat_le b 4352 && nat_le c 4352) ≡ true

@@ -1,14 +1,13 @@
 -- Boxes, and the inner boxes that are taken out of them. Lengths are map units.
-use Rattle.std.specs.Prelude.{◌≡◌, ℕ, zero, suc, ◌+◌, ◌^◌, ℤ, pos, negsuc, ◌+ℤ◌, ◌-ℤ◌, ◌<ℤ◌, ◌≤ℤ◌, Bool, true, false, ◌&&◌, ◌||◌, nat_eq, List, [], ◌∷◌, ◌++◌, length, map, Option, Some, None}
+use Rattle.std.specs.Prelude.{◌≡◌, ◌⊎◌, ℕ, zero, suc, ◌+◌, ◌^◌, ℤ, pos, negsuc, ◌+ℤ◌, ◌-ℤ◌, ◌*ℤ◌, ◌<ℤ◌, ◌≤ℤ◌, Bool, true, false, ◌&&◌, ◌||◌, nat_eq, List, [], ◌∷◌, length, map, Option, Some, None}
 use Rattle.std.specs.Ordering.{int_eq}
-use Rattle.algebra.specs.Space.{Vector, Homogeneous, side}
+use Rattle.algebra.specs.Space.{Vector, Homogeneous, HalfSpace, side}
 use Rattle.algebra.specs.World.{InCube, world}
-use Rattle.trim_laws.specs.Solid.{IsInside}
+use Rattle.trim_laws.specs.Solid.{IsIn, IsInside}
 use Rattle.exact_geom.specs.declared.point.Point.{Point}
 use Rattle.exact_geom.specs.Planes.{ThreePoints, half_space}
 use Rattle.solid_brush.specs.declared.side.Side.{Side}
 use Rattle.solid_brush.specs.Sides.{bounds, half_spaces}
-use Rattle.solid_brush.specs.Blocks.{IsEmpty}
 use Rattle.csg_ops.specs.declared.hollow_fault.HollowFault.{HollowFault}
 use Rattle.csg_ops.specs.declared.hollow_fault.HollowFault.TheVariants.{NotBox, Thick, Memory}
 
@@ -57,11 +56,21 @@ inward t s = record { plane = inward_plane t s.plane; tag = s.tag + 2 ^ 30 }
 abbrev pub inner_box : ℤ → List Side → List Side
 inner_box t sides = map (inward t) sides
 
+-- ---- the lengths of a box's sides
+-- No two points of the solid are further apart along the coordinate than the length.
+abbrev pub IsShortAlong : (Vector → ℤ) → (length : ℤ) → List HalfSpace → Type 0
+IsShortAlong coordinate length F = (p q : Homogeneous) → IsIn F p → IsIn F q →
+    (coordinate p.vector *ℤ q.weight -ℤ coordinate q.vector *ℤ p.weight) ≤ℤ (length *ℤ (p.weight *ℤ q.weight))
+
+-- A side of the box is at most so long.
+abbrev pub HasShortSide : (length : ℤ) → List HalfSpace → Type 0
+HasShortSide length F = IsShortAlong (λ v. v.x) length F ⊎ (IsShortAlong (λ v. v.y) length F ⊎ IsShortAlong (λ v. v.z) length F)
+
 -- ---- hollow
 -- Why a brush isn't hollowed. Want of memory has no cause in it.
 abbrev pub IsNotHollowedFor : ℤ → List Side → HollowFault → Type 0
 IsNotHollowedFor t a NotBox = is_box a ≡ false
-IsNotHollowedFor t a Thick = (is_box a ≡ true) × IsEmpty (a ++ inner_box t a)
+IsNotHollowedFor t a Thick = (is_box a ≡ true) × HasShortSide (t +ℤ t) (half_spaces a)
 IsNotHollowedFor t a Memory = Unit {0}
 
 -- ---- on the way

@@ -1,3 +1,4 @@
 pub mod Faults
 pub mod Cuts
 pub mod Hollows
+pub mod Laws

@@ -10,7 +10,7 @@ use std::alloc::AllocError;
 pub enum HollowFault {
     /// The brush isn't six faces with normals along the axes.
     NotBox,
-    /// No point is inside the brush and all of its faces moved inward.
+    /// Twice the thickness is at least the length of a side, so that no point is inside the inner box.
     Thick,
     /// There was no memory.
     Memory,

@@ -11,7 +11,7 @@ use std::alloc::AllocError;
 #[derive(Clone, Copy, Debug, PartialEq, Eq)]
 pub enum IntersectFault {
     /// The number of the first brush, from 0, with which the brushes so far have no common point inside.
-    Apart(usize),
+    Apart(u32),
     /// The intersection needs so many faces, more than 128.
     TooManyFaces(u32),
     /// There was no memory.

@@ -19,7 +19,7 @@ fn common(alloc: Global, list: &[Solid]) -> Result<Block, IntersectFault>
     let mut block = list[0].block(alloc)?;
     for k in 1..list.len() {
         let Some(met) = block.meet(alloc, list[k].sides())? else {
-            return Err(IntersectFault::Apart(k));
+            return Err(IntersectFault::Apart(k as u32));
         };
         block = met;
     }

@@ -7,6 +7,7 @@ use Rattle.solid_brush.specs.Blocks.{IsTrimmedTo}
 use Rattle.csg_ops.specs.Hollows.{is_box, inner_box}
 use Rattle.csg_ops.proofs.MovedPlanes.{thickness_kept}
 use Rattle.csg_ops.proofs.Hollows.{hollow_tags, axes_of_box, few_walls, some_inner, none_thick, told_box}
+use Rattle.csg_ops.proofs.ShortSides.{thick_short, long_common}
 use Rattle.csg_ops.proofs.Pieces.{has_pieces, none_carved, remainder_of}
 use Rattle.csg_ops.proofs.hollowing.hollow.Goals as goal
 
@@ -22,7 +23,8 @@ inner_box-requires-clause-small c = subst (Every (λ s. s.tag < 1073741824)) (sy
 pub returns-in_default-clause-fault : goal.returns-in_default-clause-fault
 returns-in_default-clause-fault c = (
   told_box c.args.a.now c.sides-sides.result.now c.is_box.result c.sides-sides.ensures.sides c.is_box.ensures true c.if-not-is_box.false,
-  none_thick c.args.thickness _ c.args.a.now c.sides-sides.result.now (option_map (λ sides. sides.items) c.in_ok-inner.field-0) (thickness_kept c.args.thickness c.requires.thickness) c.sides-sides.ensures.sides c.sides-sides.ensures.solid c.in_ok-inner.ensures (ap (option_map (λ sides. sides.items)) c.in_default.is),
+  thick_short c.args.thickness c.args.a.now c.requires.thickness c.sides-sides.ensures.solid (told_box c.args.a.now c.sides-sides.result.now c.is_box.result c.sides-sides.ensures.sides c.is_box.ensures true c.if-not-is_box.false)
+      (none_thick c.args.thickness _ c.args.a.now c.sides-sides.result.now (option_map (λ sides. sides.items) c.in_ok-inner.field-0) (thickness_kept c.args.thickness c.requires.thickness) c.sides-sides.ensures.sides c.sides-sides.ensures.solid c.in_ok-inner.ensures (ap (option_map (λ sides. sides.items)) c.in_default.is)),
 )
 
 pub carve-requires : goal.carve-requires
@@ -36,7 +38,8 @@ pub returns-in_default-2-clause-fault : goal.returns-in_default-2-clause-fault
 returns-in_default-2-clause-fault c =
     let inner = c.deref.ensures.value ∙ some_inner c.args.thickness _ c.args.a.now c.sides-sides.result.now (option_map (λ sides. sides.items) c.in_ok-inner.field-0) c.in-Some.inner.items (thickness_kept c.args.thickness c.requires.thickness) c.sides-sides.ensures.sides c.in_ok-inner.ensures (ap (option_map (λ sides. sides.items)) c.in-Some.is) in (
       told_box c.args.a.now c.sides-sides.result.now c.is_box.result c.sides-sides.ensures.sides c.is_box.ensures true c.if-not-is_box.false,
-      none_carved c.in_ok-block.block c.args.a.now c.deref.result.now (inner_box c.args.thickness c.args.a.now) (option_map (λ blocks. blocks.items) c.in_ok-blocks.field-0) c.in_ok-block.ensures.same inner c.in_ok-blocks.ensures (ap (option_map (λ blocks. blocks.items)) c.in_default-2.is),
+      thick_short c.args.thickness c.args.a.now c.requires.thickness c.sides-sides.ensures.solid (told_box c.args.a.now c.sides-sides.result.now c.is_box.result c.sides-sides.ensures.sides c.is_box.ensures true c.if-not-is_box.false)
+          (none_carved c.in_ok-block.block c.args.a.now c.deref.result.now (inner_box c.args.thickness c.args.a.now) (option_map (λ blocks. blocks.items) c.in_ok-blocks.field-0) c.in_ok-block.ensures.same inner c.in_ok-blocks.ensures (ap (option_map (λ blocks. blocks.items)) c.in_default-2.is)),
     )
 
 pub few_solids_of-requires : goal.few_solids_of-requires
@@ -50,6 +53,7 @@ returns c =
     let inner = c.deref.ensures.value ∙ some_inner c.args.thickness _ c.args.a.now c.sides-sides.result.now (option_map (λ sides. sides.items) c.in_ok-inner.field-0) c.in-Some.inner.items (thickness_kept c.args.thickness c.requires.thickness) c.sides-sides.ensures.sides c.in_ok-inner.ensures (ap (option_map (λ sides. sides.items)) c.in-Some.is) in
     let p = has_pieces c.in_ok-block.block c.args.a.now c.deref.result.now (inner_box c.args.thickness c.args.a.now) (option_map (λ blocks. blocks.items) c.in_ok-blocks.field-0) c.in-Some-2.blocks.items c.in_ok-few_solids_of.field-0.items c.in_ok-block.ensures.same inner c.in_ok-blocks.ensures (ap (option_map (λ blocks. blocks.items)) c.in-Some-2.is) c.in_ok-few_solids_of.ensures.same in record {
       shape = told_box c.args.a.now c.sides-sides.result.now c.is_box.result c.sides-sides.ensures.sides c.is_box.ensures true c.if-not-is_box.false;
+      long = long_common c.args.thickness c.args.a.now c.requires.thickness c.sides-sides.ensures.solid (told_box c.args.a.now c.sides-sides.result.now c.is_box.result c.sides-sides.ensures.sides c.is_box.ensures true c.if-not-is_box.false) p.common;
       common = p.common;
       pieces = p.pieces_are;
       remainder = remainder_of c.args.a.now (inner_box c.args.thickness c.args.a.now) c.in_ok-few_solids_of.field-0.items p;
