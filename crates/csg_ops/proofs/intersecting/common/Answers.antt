@@ -1,4 +1,4 @@
-use Rattle.std.proofs.Common.{◌++◌, length, take, sym, subst}
+use Rattle.std.proofs.Common.{rules, ◌++◌, length, take, sym, subst}
 use Rattle.solid_brush.specs.Sides.{HaveTags}
 use Rattle.solid_brush.specs.Blocks.{IsLeft}
 use Rattle.csg_ops.specs.Cuts.{all_sides}
@@ -16,8 +16,8 @@ loop-k-preserved c = (next_trimmed c.args.list.now c.loop-k.k c.index-list-k.res
     (subst (IsLeft ((all_sides (take c.loop-k.k c.args.list.now)) ++ c.index-list-k.result)) c.in-Some.is (subst (λ s. IsLeft ((all_sides (take c.loop-k.k c.args.list.now)) ++ s) c.in_ok-met.field-0) c.sides.ensures.sides (c.in_ok-met.ensures.further (all_sides (take c.loop-k.k c.args.list.now)) c.loop-k.invariant.0))),
   next_counted c.args.list.now c.loop-k.k c.index-list-k.result c.loop-k-test.true c.index-list-k.is c.sides.ensures.solid c.loop-k.invariant.1)
 
-pub overflow_cast-k : goal.overflow_cast-k
-overflow_cast-k c = at_most_all c.args.list.now c.loop-k.k c.index-list-k.result c.loop-k-test.true c.index-list-k.is c.sides.ensures.solid c.requires.tags c.loop-k.invariant.1
+pub overflow_cast-result : goal.overflow_cast-result
+overflow_cast-result c = let f = at_most_all c.args.list.now c.loop-k.k c.index-list-k.result c.loop-k-test.true c.index-list-k.is c.sides.ensures.solid c.requires.tags c.loop-k.invariant.1 in search rules
 
 pub returns-in_default-clause-fault : goal.returns-in_default-clause-fault
 returns-in_default-clause-fault c = first_apart c.args.list.now c.loop-k.k c.index-list-k.result c.loop-k-test.true c.index-list-k.is c.loop-k.block c.loop-k.invariant.0
