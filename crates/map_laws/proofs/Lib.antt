@@ -40,3 +40,6 @@ pub mod MovedMaps
 pub mod Copying
 pub mod MovingCommands
 pub mod BoxCommand
+pub mod Retexturing
+pub mod ReshapingRows
+pub mod ReshapingCommands

@@ -167,7 +167,7 @@ copying b s m shift ns right shape u e =
 
 -- The motions of commands keep lengths. ----------------------------------------------------------------------------------------------
 
-quarters_turn : (axis : Axis) (n : ℕ) → n ≤ 3 → is_signed_permutation (quarters axis n) ≡ true
+pub quarters_turn : (axis : Axis) (n : ℕ) → n ≤ 3 → is_signed_permutation (quarters axis n) ≡ true
 unfolding dot
 quarters_turn X zero h = refl
 quarters_turn X (suc zero) h = refl
@@ -183,7 +183,7 @@ quarters_turn Z (suc (suc zero)) h = refl
 quarters_turn Z (suc (suc (suc zero))) h = refl
 quarters_turn axis n h = absurd (omega arith)
 
-flips_turn : (axis : Axis) (at : ℤ) (ns : List ℕ) → is_signed_permutation (motion_of (Flip axis at ns)).matrix ≡ true
+pub flips_turn : (axis : Axis) (at : ℤ) (ns : List ℕ) → is_signed_permutation (motion_of (Flip axis at ns)).matrix ≡ true
 flips_turn X at ns = refl
 flips_turn Y at ns = refl
 flips_turn Z at ns = refl

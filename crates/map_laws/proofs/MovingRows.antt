@@ -37,7 +37,7 @@ rows_by b s m c two gap later shift =
     (both (lock_offset s m c) (stuck_origin m c ∷ shift_range m c ∷ []) (stuck_origin m c ∷ [])
     (both (stuck_origin m c) (shift_range m c ∷ []) [] (skip (shift_range m c) [] [] shift refl))))))))))
 
-no_two_members : (m : Whole) (c : Command) → ((n : ℕ) → edits m c n ≡ []) → two_members m c ≡ None
+pub no_two_members : (m : Whole) (c : Command) → ((n : ℕ) → edits m c n ≡ []) → two_members m c ≡ None
 no_two_members m c h = ap (two_members_from m []) (flat_none (edits m c) h (named c))
 
 no_links_moved : (m : Whole) (c : Command) → Unlinked m → filter (is_linked m) (all_moved m c) ≡ []

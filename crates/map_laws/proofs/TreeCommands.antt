@@ -37,7 +37,7 @@ use Rattle.map_laws.proofs.Unlinking.{Outcome, EndsPlainly, outcome_of, outcome_
 use Rattle.map_laws.proofs.TreeRows.{rows_are}
 
 -- A command that changes one node where no other sees it.
-renewed : (m : Whole) (c : Command) (n : ℕ) (g : Node → Node) → KeepsAll g → Shape m → Unlinked m → ((x : Node) → at m n ≡ Some x → NodeOk (format_of m) (g x)) → Outcome m c (renew n g m)
+pub renewed : (m : Whole) (c : Command) (n : ℕ) (g : Node → Node) → KeepsAll g → Shape m → Unlinked m → ((x : Node) → at m n ≡ Some x → NodeOk (format_of m) (g x)) → Outcome m c (renew n g m)
 renewed m c n g keeps shape unlinked ok =
     let l = renew_alike m n g keeps in
     let u : Unlinked (renew n g m) = λ q. same_linked l q ∙ unlinked q in

@@ -5,3 +5,4 @@ pub mod Unlinked
 pub mod TreeCommands
 pub mod MovingCommands
 pub mod BoxCommand
+pub mod Reshaping

@@ -10,6 +10,7 @@ ghost use Rattle.map_laws.specs.BoxCommand.{MaterialLaw, BoxRowsLaw, BoxApplyLaw
 ghost use Rattle.map_laws.specs.Walking.{WalksLaw};
 ghost use Rattle.map_laws.specs.Editing.{PutLastLaw, MoveLaw, DeleteLaw, ReplaceLaw, PutAfterLaw, CopyLaw, RenewLaw, PruneLaw};
 ghost use Rattle.map_laws.specs.MovingCommands.{MovingRowsLaw, MovingApplyLaw, MovingCommandLaw};
+ghost use Rattle.map_laws.specs.Reshaping.{ReshapingRowsLaw, ReshapingApplyLaw, ReshapingCommandLaw};
 ghost use Rattle.map_laws.specs.TreeCommands.{UnlinkedApplyLaw, UnlinkedRowsLaw, TreeCommandLaw};
 
 /// What stands above and beneath a node is found with the fuel that there is.
@@ -105,4 +106,19 @@ pub fn box_apply_law()
 /// The command that makes a box keeps the shape of a map in which no group is linked, and the box is a valid brush.
 pub fn box_command_law()
     ensures { BoxCommandLaw }
+{}
+
+/// Where no group is linked, a few rows can refuse a command that remakes brushes.
+pub fn reshaping_rows_law()
+    ensures { ReshapingRowsLaw }
+{}
+
+/// Where no group is linked, a command that remakes brushes is its rows, its own changes, pruning and the row of numbers.
+pub fn reshaping_apply_law()
+    ensures { ReshapingApplyLaw }
+{}
+
+/// The commands that remake brushes keep the shape of a map in which no group is linked, and the brushes are valid.
+pub fn reshaping_command_law()
+    ensures { ReshapingCommandLaw }
 {}

@@ -1,0 +1,42 @@
+-- The commands that remake brushes or their faces, in maps in which no group is linked. The tests on solids are right, and the material of
+-- new faces can be saved.
+use Rattle.std.specs.Prelude.{◌≡◌, Bool, true, false, IsTrue, List, [], ◌∷◌, length, Option, Ok}
+use Rattle.map_model.specs.Tree.{Whole}
+use Rattle.map_model.specs.Shape.{Shape}
+use Rattle.map_model.specs.Below.{Below, IsRight}
+use Rattle.map_model.specs.Commands.{Command, IsGood, Settings, Tex}
+use Rattle.map_model.specs.Replies.{Refusal}
+use Rattle.map_model.specs.Rows.{rows, first, no_node, wrong_kind, locked_layer}
+use Rattle.map_model.specs.Apply.{Applied, apply}
+use Rattle.map_laws.specs.Unlinked.{Unlinked, apply_unlinked}
+use Rattle.map_laws.specs.BoxCommand.{KeepsMaterial}
+
+abbrev pub is_reshaping_command : Command → Bool
+is_reshaping_command (Tex n face name off rotation scale surface) = true
+is_reshaping_command c = false
+
+-- The rows that can refuse such a command.
+abbrev pub reshaping_rows : Below → Settings → Whole → Command → List (Option Refusal)
+reshaping_rows b s m (Tex n face name off rotation scale surface) =
+    let c = Tex n face name off rotation scale surface in
+    no_node m c ∷ wrong_kind m c ∷ locked_layer m c ∷ []
+reshaping_rows b s m c = []
+
+-- The offsets and the scales of a texture are two each.
+abbrev pub HasPairs : Command → Type 0
+HasPairs (Tex n face name off rotation scale surface) = (length off ≡ 2) × (length scale ≡ 2)
+HasPairs c = Unit {0}
+
+-- No other row holds.
+abbrev pub ReshapingRowsLaw : Type 0
+ReshapingRowsLaw = (b : Below) (s : Settings) (m : Whole) (c : Command) → IsTrue (is_reshaping_command c) → Unlinked m → first (rows b s m c) ≡ first (reshaping_rows b s m c)
+
+-- Marks, edited groups and spreading change nothing.
+abbrev pub ReshapingApplyLaw : Type 0
+ReshapingApplyLaw = (b : Below) (s : Settings) (m : Whole) (c : Command) → IsRight b → KeepsMaterial s → IsTrue (is_reshaping_command c) → IsGood c → HasPairs c → Shape m → Unlinked m →
+    apply b s m c ≡ apply_unlinked b s m c
+
+-- The map after a command has the shape again, and no linked group: brushes that are remade are valid.
+abbrev pub ReshapingCommandLaw : Type 0
+ReshapingCommandLaw = (b : Below) (s : Settings) (m : Whole) (c : Command) (a : Applied) → IsRight b → KeepsMaterial s → IsTrue (is_reshaping_command c) → IsGood c → HasPairs c → Shape m → Unlinked m →
+    apply b s m c ≡ Ok a → Shape a.map × Unlinked a.map
