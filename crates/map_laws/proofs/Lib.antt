@@ -40,6 +40,11 @@ pub mod MovedMaps
 pub mod Copying
 pub mod MovingCommands
 pub mod BoxCommand
+pub mod PlainFaces
+pub mod TrimmedFaces
+pub mod FairMaps
+pub mod Remaking
 pub mod Retexturing
+pub mod RemakingSteps
 pub mod ReshapingRows
 pub mod ReshapingCommands

@@ -43,7 +43,7 @@ no_empty_link : (before : Whole) (c : Command) (m : Whole) → Unlinked before �
 no_empty_link before c m u = no_row (named c) (λ n. at_each (option_to_list (over before n)) (λ g. refuse (is_emptied before m g) (EmptyLink g)))
     (λ n. ap (λ o. at_each (option_to_list o) (λ g. refuse (is_emptied before m g) (EmptyLink g))) (none_over before u n))
 
-is_none_by : {A : Type 0} (o : Option A) → is_some o ≡ false → o ≡ None
+pub is_none_by : {A : Type 0} (o : Option A) → is_some o ≡ false → o ≡ None
 is_none_by None e = refl
 is_none_by (Some x) e = absurd (cc)
 
@@ -108,7 +108,7 @@ pub record Outcome (m : Whole) (c : Command) (k : Whole) : Type 0 where
   pub unmarked : (n : ℕ) → mark_at (prune m c k) n ≡ None
   pub shape : (prune m c k).next ≤ 65536 → Shape (prune m c k)
 
-unlinked_marks : (m : Whole) → Unlinked m → ((n : ℕ) → mark_at m n ≡ None) → Marks m
+pub unlinked_marks : (m : Whole) → Unlinked m → ((n : ℕ) → mark_at m n ≡ None) → Marks m
 unlinked_marks m u marks = record {
   not_nested = λ g l. none_over m u g;
   marked = λ n. ap is_some (marks n) ∙ sym (ap is_some (none_over m u n));
