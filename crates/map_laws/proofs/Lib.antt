@@ -46,5 +46,7 @@ pub mod FairMaps
 pub mod Remaking
 pub mod Retexturing
 pub mod RemakingSteps
+pub mod BrushRows
+pub mod Clipping
 pub mod ReshapingRows
 pub mod ReshapingCommands

@@ -4,15 +4,16 @@ use Rattle.std.specs.Prelude.{◌≡◌, Bool, true, false, IsTrue, List, [], �
 use Rattle.map_model.specs.Tree.{Whole}
 use Rattle.map_model.specs.Shape.{Shape}
 use Rattle.map_model.specs.Below.{Below, IsRight}
-use Rattle.map_model.specs.Commands.{Command, IsGood, Settings, Tex}
+use Rattle.map_model.specs.Commands.{Command, IsGood, Settings, Tex, Clip}
 use Rattle.map_model.specs.Replies.{Refusal}
-use Rattle.map_model.specs.Rows.{rows, first, no_node, wrong_kind, locked_layer}
+use Rattle.map_model.specs.Rows.{rows, first, no_node, repeated, wrong_kind, locked_layer, flat_plane, plane_misses, too_many_faces}
 use Rattle.map_model.specs.Apply.{Applied, apply}
 use Rattle.map_laws.specs.Unlinked.{Unlinked, apply_unlinked}
 use Rattle.map_laws.specs.BoxCommand.{KeepsMaterial}
 
 abbrev pub is_reshaping_command : Command → Bool
 is_reshaping_command (Tex n face name off rotation scale surface) = true
+is_reshaping_command (Clip part plane ns) = true
 is_reshaping_command c = false
 
 -- The rows that can refuse such a command.
@@ -20,6 +21,9 @@ abbrev pub reshaping_rows : Below → Settings → Whole → Command → List (O
 reshaping_rows b s m (Tex n face name off rotation scale surface) =
     let c = Tex n face name off rotation scale surface in
     no_node m c ∷ wrong_kind m c ∷ locked_layer m c ∷ []
+reshaping_rows b s m (Clip part plane ns) =
+    let c = Clip part plane ns in
+    no_node m c ∷ repeated c ∷ wrong_kind m c ∷ locked_layer m c ∷ flat_plane c ∷ plane_misses b s m c ∷ too_many_faces b s m c ∷ []
 reshaping_rows b s m c = []
 
 -- The offsets and the scales of a texture are two each.
