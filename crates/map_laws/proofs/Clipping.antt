@@ -108,8 +108,9 @@ clips b s m part points ns right material good shape u e =
     let front_ok = λ (n : ℕ) (i : n ∈ ns) (few : length (clipped_front b s m plane n) ≤ 128).
     part_ok b s f (reversed_plane plane) (faces_at m n) right material (is_plane-reverse plane is) (brush_faces m n shape (brushes n i)) (both_inside n i).1 few in
     remade_outcome m c (own b s m c) shape u
-    (in_turn f (clip b s part plane) (PartsOk b s f plane part) (clip_step b s f plane part) ns m (fair_of m shape u)
+    (in_turn f (clip b s part plane) (PartsOk b s f plane part) (λ n. Unit {0}) (λ k n fair r so. clip_step b s f plane part k n fair r) ns m (fair_of m shape u)
     (λ n i. record { is = brushes n i; faces = parts part n i (few_at n i) (back_ok n i) (front_ok n i) })
+    (λ n i. tt)
     (λ x. by_member x ns (λ i. fit.once x i) (λ none. omega (arith, tally-no_member x ns none))))
     brushes
   where

@@ -48,5 +48,8 @@ pub mod Retexturing
 pub mod RemakingSteps
 pub mod BrushRows
 pub mod Clipping
+pub mod PieceFaces
+pub mod Subtracting
+pub mod Intersecting
 pub mod ReshapingRows
 pub mod ReshapingCommands

@@ -67,8 +67,9 @@ pub record Remade (f : Format) (ns : List ℕ) (m k : Whole) : Type 0 where
   pub fair : Fair f k
   pub keeps : Keeps m k
   pub children : (q a : ℕ) → up m q ≡ Some a → ((r : ℕ) × (up k r ≡ Some a)) ⊎ ((r : ℕ) × (r ∈ ns) × (up m r ≡ Some a))
+  pub same : (q : ℕ) → (q ∈ ns → ⊥) → kind_at m q ≡ Some brush → at k q ≡ at m q
 
-live_below : (m : Whole) (q : ℕ) (j : Kind) → Bounded m → kind_at m q ≡ Some j → q < m.next
+pub live_below : (m : Whole) (q : ℕ) (j : Kind) → Bounded m → kind_at m q ≡ Some j → q < m.next
 live_below m q j bound e = elim (cases_lt q m.next) [ inl lt ↦ lt | inr far ↦ absurd (not_none e (ap (option_map kind_of) (bound q far))) ]
 
 -- One step, and then steps at other brushes.
@@ -79,12 +80,31 @@ remade_then {f} {n} {ns} {m} {k} {l} a b old = record {
   children = λ q p e. by_eq q n
       (λ s. inr (n, here, ap (up m) (sym s) ∙ e))
       (λ ne. elim (b.children q p (a.stays q p ne e)) [ inl r ↦ inl r | inr r ↦ inr (r.0, there r.1, a.keeps.ups r.0 p (old r.0 r.1) r.2) ]);
+  same = λ q none is. let e = a.same q (λ s. none (first q s)) is in b.same q (λ i. none (there i)) (ap (option_map kind_of) e ∙ is) ∙ e;
 }
+  where
+    first : (q : ℕ) → q ≡ n → q ∈ (n ∷ ns)
+    first q s = rw s here
 
-less : (a x : ℕ) (xs : List ℕ) → tally a xs ≤ tally a (x ∷ xs)
+-- Steps at other brushes, and then one.
+pub then_step : {f : Format} {n : ℕ} {ns : List ℕ} {m k l : Whole} → Remade f ns m k → Step f n k l → n < m.next → Remade f (n ∷ ns) m l
+then_step {f} {n} {ns} {m} {k} {l} a b old = record {
+  fair = b.fair;
+  keeps = keeps_then a.keeps b.keeps;
+  children = λ q p e. elim (a.children q p e) [
+    | inl r ↦ by_eq r.0 n (λ s. inr (n, here, a.keeps.ups n p old (ap (up k) (sym s) ∙ r.1))) (λ ne. inl (r.0, b.stays r.0 p ne r.1))
+    | inr r ↦ inr (r.0, there r.1, r.2)
+  ];
+  same = λ q none is. let e = a.same q (λ i. none (there i)) is in b.same q (λ s. none (first q s)) (ap (option_map kind_of) e ∙ is) ∙ e;
+}
+  where
+    first : (q : ℕ) → q ≡ n → q ∈ (n ∷ ns)
+    first q s = rw s here
+
+pub less : (a x : ℕ) (xs : List ℕ) → tally a xs ≤ tally a (x ∷ xs)
 less a x xs = elim (x == a) as (λ b. tally a xs ≤ cond b (suc (tally a xs)) (tally a xs)) [ true ↦ omega arith | false ↦ omega arith ]
 
-not_again : (a q : ℕ) (qs : List ℕ) → ((x : ℕ) → tally x (q ∷ qs) ≤ 1) → a ∈ qs → a ≢ q
+pub not_again : (a q : ℕ) (qs : List ℕ) → ((x : ℕ) → tally x (q ∷ qs) ≤ 1) → a ∈ qs → a ≢ q
 not_again a q qs once i s = omega (arith, once q, tally-head q qs, member-tally a qs i, ap (λ z. tally z qs) s)
 
 -- The brush n has faces of which P holds.
@@ -98,12 +118,12 @@ still_ready {f} {P} {n} {q} {m} {k} a ne r = record {
   faces = subst (λ o. P (unwrap_or (option_map faces_of o) [])) (sym (a.same q ne r.is)) r.faces;
 }
 
-pub in_turn : (f : Format) (step : ℕ → Whole → Whole) (P : List Face → Type 0) → ((k : Whole) (n : ℕ) → Fair f k → Ready P k n → Step f n k (step n k)) →
-    (ns : List ℕ) (m : Whole) → Fair f m → ((n : ℕ) → n ∈ ns → Ready P m n) → ((x : ℕ) → tally x ns ≤ 1) → Remade f ns m (each_in_turn step ns m)
-in_turn f step P one [] m fair ready once = record { fair = fair; keeps = keeps_itself m fair.bound; children = λ q a e. inl (q, e) }
-in_turn f step P one (n ∷ ns) m fair ready once =
-    let a = one m n fair (ready n here) in
-    remade_then a (in_turn f step P one ns (step n m) a.fair (λ q i. still_ready a (not_again q n ns once i) (ready q (there i))) (λ x. omega (arith, once x, less x n ns)))
+pub in_turn : (f : Format) (step : ℕ → Whole → Whole) (P : List Face → Type 0) (Q : ℕ → Type 0) → ((k : Whole) (n : ℕ) → Fair f k → Ready P k n → Q n → Step f n k (step n k)) →
+    (ns : List ℕ) (m : Whole) → Fair f m → ((n : ℕ) → n ∈ ns → Ready P m n) → ((n : ℕ) → n ∈ ns → Q n) → ((x : ℕ) → tally x ns ≤ 1) → Remade f ns m (each_in_turn step ns m)
+in_turn f step P Q one [] m fair ready so once = record { fair = fair; keeps = keeps_itself m fair.bound; children = λ q a e. inl (q, e); same = λ q none is. refl }
+in_turn f step P Q one (n ∷ ns) m fair ready so once =
+    let a = one m n fair (ready n here) (so n here) in
+    remade_then a (in_turn f step P Q one ns (step n m) a.fair (λ q i. still_ready a (not_again q n ns once i) (ready q (there i))) (λ q i. so q (there i)) (λ x. omega (arith, once x, less x n ns)))
     (λ q i. live_below m q brush fair.bound (ready q (there i)).is)
 
 -- What comes of such a command.

@@ -4,9 +4,9 @@ use Rattle.std.specs.Prelude.{◌≡◌, Bool, true, false, IsTrue, List, [], �
 use Rattle.map_model.specs.Tree.{Whole}
 use Rattle.map_model.specs.Shape.{Shape}
 use Rattle.map_model.specs.Below.{Below, IsRight}
-use Rattle.map_model.specs.Commands.{Command, IsGood, Settings, Tex, Clip}
+use Rattle.map_model.specs.Commands.{Command, IsGood, Settings, Tex, Clip, Subtract, Intersect}
 use Rattle.map_model.specs.Replies.{Refusal}
-use Rattle.map_model.specs.Rows.{rows, first, no_node, repeated, wrong_kind, locked_layer, flat_plane, plane_misses, too_many_faces}
+use Rattle.map_model.specs.Rows.{rows, first, no_node, repeated, wrong_kind, locked_layer, flat_plane, plane_misses, apart, too_many_faces}
 use Rattle.map_model.specs.Apply.{Applied, apply}
 use Rattle.map_laws.specs.Unlinked.{Unlinked, apply_unlinked}
 use Rattle.map_laws.specs.BoxCommand.{KeepsMaterial}
@@ -14,6 +14,8 @@ use Rattle.map_laws.specs.BoxCommand.{KeepsMaterial}
 abbrev pub is_reshaping_command : Command → Bool
 is_reshaping_command (Tex n face name off rotation scale surface) = true
 is_reshaping_command (Clip part plane ns) = true
+is_reshaping_command (Subtract by ns) = true
+is_reshaping_command (Intersect ns) = true
 is_reshaping_command c = false
 
 -- The rows that can refuse such a command.
@@ -24,6 +26,12 @@ reshaping_rows b s m (Tex n face name off rotation scale surface) =
 reshaping_rows b s m (Clip part plane ns) =
     let c = Clip part plane ns in
     no_node m c ∷ repeated c ∷ wrong_kind m c ∷ locked_layer m c ∷ flat_plane c ∷ plane_misses b s m c ∷ too_many_faces b s m c ∷ []
+reshaping_rows b s m (Subtract by ns) =
+    let c = Subtract by ns in
+    no_node m c ∷ repeated c ∷ wrong_kind m c ∷ locked_layer m c ∷ apart b m c ∷ too_many_faces b s m c ∷ []
+reshaping_rows b s m (Intersect ns) =
+    let c = Intersect ns in
+    no_node m c ∷ repeated c ∷ wrong_kind m c ∷ locked_layer m c ∷ apart b m c ∷ too_many_faces b s m c ∷ []
 reshaping_rows b s m c = []
 
 -- The offsets and the scales of a texture are two each.
