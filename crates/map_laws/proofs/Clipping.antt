@@ -38,7 +38,7 @@ use Rattle.map_laws.proofs.BrushRows.{not_false, named_brushes, brush_faces, eac
 use Rattle.map_laws.proofs.Unlinking.{Outcome}
 
 -- The plane of three points in range that aren't on a line.
-in_range : (p : Point) → IsNear p → is_in_range p ≡ true
+pub in_range : (p : Point) → IsNear p → is_in_range p ≡ true
 in_range p h = (λ i. le-leb (unsigned_abs p.x) 4352 h.x i && le-leb (unsigned_abs p.y) 4352 h.y i && le-leb (unsigned_abs p.z) 4352 h.z i)
 
 nth_point : (k : ℕ) (points : List (List ℤ)) → AllByRecursion IsPoint points → IsPoint (slice_index_or points k [])

@@ -51,5 +51,8 @@ pub mod Clipping
 pub mod PieceFaces
 pub mod Subtracting
 pub mod Intersecting
+pub mod BoxWalls
+pub mod InwardWalls
+pub mod Hollowing
 pub mod ReshapingRows
 pub mod ReshapingCommands

@@ -27,18 +27,16 @@ use Rattle.map_laws.proofs.BrushRows.{named_brushes, brush_faces, each_few}
 use Rattle.map_laws.proofs.Unlinking.{Outcome}
 
 -- Brushes in the place of a brush, whatever faces it has.
-pub AreBrushes : Format → List (List Face) → Type 0
+abbrev pub AreBrushes : Format → List (List Face) → Type 0
 AreBrushes f results = (faces : List Face) → faces ∈ results → FacesOk f faces
 
 pub put_in_place : (f : Format) (results : ℕ → List (List Face)) (k : Whole) (n : ℕ) → Fair f k → Ready (λ fs. Unit {0}) k n → AreBrushes f (results n) → Step f n k (replace_by n (results n) k)
-unfolding AreBrushes
 put_in_place f results k n fair r ok = let p = parent_said k n brush r.is refl in replace_step f n k p.0 (results n) fair p.1 r.is ok
 
 pub goes : (f : Format) (k : Whole) (n : ℕ) → Fair f k → kind_at k n ≡ Some brush → Step f n k (delete n k)
 goes f k n fair is = let p = parent_said k n brush is refl in delete_step f n k p.0 fair p.1 is
 
 pub subtracts : (b : Below) (s : Settings) (m : Whole) (by : ℕ) (ns : List ℕ) → IsRight b → Shape m → Unlinked m → first (rows b s m (Subtract by ns)) ≡ None → Outcome m (Subtract by ns) (own b s m (Subtract by ns))
-unfolding AreBrushes
 subtracts b s m by ns right shape u e =
     let c = Subtract by ns in
     let f = format_of m in
