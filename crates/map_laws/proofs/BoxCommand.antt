@@ -34,6 +34,7 @@ use Rattle.map_laws.proofs.NewNodes.{put_in_world}
 use Rattle.map_laws.proofs.MovedFaces.{none_out}
 use Rattle.map_laws.proofs.MovingCommands.{no_refusal, none_by, no_place}
 use Rattle.map_laws.proofs.Boxes.{normals, IsWall, IsNear, box_walls, box_valid}
+use Rattle.map_laws.proofs.PlainFaces.{plain_brush}
 use Rattle.map_laws.proofs.Unlinking.{Outcome, EndsPlainly, apply_is, accepted_shape}
 
 -- Faces with plain fields. -----------------------------------------------------------------------------------------------------------
@@ -50,47 +51,6 @@ wall_not_flat t w = ap is_zero w.is ∙ by w.normal w.along
     by n (there (there (there (there here)))) = refl
     by n (there (there (there (there (there here))))) = refl
     by n (there (there (there (there (there (there i)))))) = elim i [ ]
-
-abbrev axes_fit : Vector → Bool
-axes_fit n = let axes = in_units (unwrap_or (base_axes_of n) []) in length axes == 2 && list_all (are_below_million 3 axis_unit) axes
-
-axes_in_range : (t : ThreePoints) → IsWall t → is_tex_in_range (plain_tex Valve t) ≡ true
-unfolding base_axes_of dot
-axes_in_range t w = ap (λ n. axes_fit n && true) w.is ∙ ap (λ b. b && true) (by w.normal w.along)
-  where
-    by : (n : Vector) → n ∈ normals → axes_fit n ≡ true
-    by n here = refl
-    by n (there here) = refl
-    by n (there (there here)) = refl
-    by n (there (there (there here))) = refl
-    by n (there (there (there (there here)))) = refl
-    by n (there (there (there (there (there here))))) = refl
-    by n (there (there (there (there (there (there i)))))) = elim i [ ]
-
-tex_in_range : (format : Format) (t : ThreePoints) → IsWall t → is_tex_in_range (plain_tex format t) ≡ true
-tex_in_range Standard t w = refl
-tex_in_range Valve t w = axes_in_range t w
-
-tex_form : (format : Format) (t : ThreePoints) → is_format format (format_of_tex (plain_tex format t)) ≡ true
-tex_form Standard t = refl
-tex_form Valve t = refl
-
-face_ok : (s : Settings) (m : Whole) (t : ThreePoints) → KeepsMaterial s → IsWall t → first_out_of_range t ≡ None → FaceOk (format_of m) (plain_face s m t)
-face_ok s m t material w range = record {
-  form = tex_form (format_of m) t;
-  plane = none_out t range (wall_not_flat t w);
-  material = material;
-  numbers = tex_in_range (format_of m) t w;
-}
-
-each_ok : (s : Settings) (m : Whole) (ts : List ThreePoints) → KeepsMaterial s → ((t : ThreePoints) → t ∈ ts → IsWall t × (first_out_of_range t ≡ None)) → Every (FaceOk (format_of m)) (map (plain_face s m) ts)
-each_ok s m [] material h f i = elim i [ ]
-each_ok s m (t ∷ ts) material h f here = face_ok s m t material (h t here).0 (h t here).1
-each_ok s m (t ∷ ts) material h f (there i) = each_ok s m ts material (λ u j. h u (there j)) f i
-
-plain_halves : (s : Settings) (m : Whole) (ts : List ThreePoints) → half_spaces (map (plain_face s m) ts) ≡ map half_space ts
-plain_halves s m [] = refl
-plain_halves s m (t ∷ ts) = ap (λ l. half_space t ∷ l) (plain_halves s m ts)
 
 pub material_kept : MaterialLaw
 material_kept s (inl e) = subst (λ t. is_material_text (cond (length t == 0) (codes "__TB_empty") t) ≡ true) (sym e) refl
@@ -118,13 +78,12 @@ outcome b s m x y right material good shape u e =
     let below_x = and_parts (int_lt v.x w.x) (int_lt v.y w.y && int_lt v.z w.z) below in
     let below_y = and_parts (int_lt v.y w.y) (int_lt v.z w.z) below_x.1 in
     let range = no_place (λ f. not (is_none (first_out_of_range f.plane))) 0 faces (no_refusal (PointRange 0) _ r.points) in
-    let ok : FacesOk (format_of m) faces = record {
-      each = each_ok s m (box_planes (point_in x) (point_in y)) material
-          (λ t i. (box_walls (point_in x) (point_in y) t i, none_by (first_out_of_range t) (range (plain_face s m t) (among_moved (plain_face s m) t (box_planes (point_in x) (point_in y)) i))));
-      valid = subst Valid (sym (plain_halves s m (box_planes (point_in x) (point_in y))))
-          (box_valid (point_in x) (point_in y) ((decides_less v.x w.x).0 below_x.0) ((decides_less v.y w.y).0 below_y.0) ((decides_less v.z w.z).0 below_y.1) b right
-          (near x good.ranges.0) (near y good.ranges.1) (refuse_none (b.leaves_world (map half_space (box_planes (point_in x) (point_in y)))) (OutOfWorld 0) r.world));
-    } in
+    let planes = box_planes (point_in x) (point_in y) in
+    let ok : FacesOk (format_of m) faces =
+    plain_brush s (format_of m) planes material
+    (λ t i. none_out t (none_by (first_out_of_range t) (range (plain_face s m t) (among_moved (plain_face s m) t planes i))) (wall_not_flat t (box_walls (point_in x) (point_in y) t i)))
+    (box_valid (point_in x) (point_in y) ((decides_less v.x w.x).0 below_x.0) ((decides_less v.y w.y).0 below_y.0) ((decides_less v.z w.z).0 below_y.1) b right
+    (near x good.ranges.0) (near y good.ranges.1) (refuse_none (b.leaves_world (map half_space planes)) (OutOfWorld 0) r.world)) in
     put_in_world m (Box x y) (Brush 0 None faces) shape u refl refl refl refl (λ e. cc) (record { ok = ok; no_link = refl; no_mark = refl })
 
 ends : (b : Below) (s : Settings) (m : Whole) (x y : List ℤ) → EndsPlainly b s m (Box x y)

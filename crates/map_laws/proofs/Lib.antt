@@ -39,8 +39,8 @@ pub mod Boxes
 pub mod MovedMaps
 pub mod Copying
 pub mod MovingCommands
-pub mod BoxCommand
 pub mod PlainFaces
+pub mod BoxCommand
 pub mod TrimmedFaces
 pub mod FairMaps
 pub mod Remaking
@@ -54,5 +54,7 @@ pub mod Intersecting
 pub mod BoxWalls
 pub mod InwardWalls
 pub mod Hollowing
+pub mod FacetFaces
+pub mod Hulling
 pub mod ReshapingRows
 pub mod ReshapingCommands

@@ -4,7 +4,7 @@ use Rattle.algebra.specs.Members.{here}
 use Rattle.map_model.specs.Tree.{Whole, at, format_of, with_faces, faces_at}
 use Rattle.map_model.specs.Shape.{Shape}
 use Rattle.map_model.specs.Below.{Below, IsRight}
-use Rattle.map_model.specs.Commands.{Command, IsGood, Settings, Tex, Clip, Subtract, Intersect, Hollow}
+use Rattle.map_model.specs.Commands.{Command, IsGood, Settings, Tex, Clip, Subtract, Intersect, Hollow, Hull}
 use Rattle.map_model.specs.Rows.{rows, first, edits}
 use Rattle.map_model.specs.Own.{own, change_at, retextured}
 use Rattle.map_laws.specs.Unlinked.{Unlinked}
@@ -17,6 +17,7 @@ use Rattle.map_laws.proofs.Clipping.{clips}
 use Rattle.map_laws.proofs.Subtracting.{subtracts}
 use Rattle.map_laws.proofs.Intersecting.{intersects}
 use Rattle.map_laws.proofs.Hollowing.{hollows}
+use Rattle.map_laws.proofs.Hulling.{hulls}
 use Rattle.map_laws.proofs.Unlinking.{Outcome, EndsPlainly, apply_is, accepted_shape}
 
 outcome : (b : Below) (s : Settings) (m : Whole) (c : Command) → IsRight b → KeepsMaterial s → is_reshaping_command c ≡ true → IsGood c → HasPairs c → Shape m → Unlinked m → first (rows b s m c) ≡ None → Outcome m c (own b s m c)
@@ -31,6 +32,7 @@ outcome b s m (Clip part plane ns) right material is good two shape u e = clips 
 outcome b s m (Subtract by ns) right material is good two shape u e = subtracts b s m by ns right shape u e
 outcome b s m (Intersect ns) right material is good two shape u e = intersects b s m ns right good shape u e
 outcome b s m (Hollow thickness ns) right material is good two shape u e = hollows b s m thickness ns right good shape u e
+outcome b s m (Hull points) right material is good two shape u e = hulls b s m points material shape u e
 outcome b s m c right material is good two shape u e = absurd (cc)
 
 ends : (b : Below) (s : Settings) (m : Whole) (c : Command) → is_reshaping_command c ≡ true → EndsPlainly b s m c
@@ -39,6 +41,7 @@ ends b s m (Clip part plane ns) is = record { accepted = refl; editing = flat_ma
 ends b s m (Subtract by ns) is = record { accepted = refl; editing = flat_map (edits m (Subtract by ns)) (by ∷ ns); edits = λ k. refl }
 ends b s m (Intersect ns) is = record { accepted = refl; editing = flat_map (edits m (Intersect ns)) ns; edits = λ k. refl }
 ends b s m (Hollow thickness ns) is = record { accepted = refl; editing = flat_map (edits m (Hollow thickness ns)) ns; edits = λ k. refl }
+ends b s m (Hull points) is = record { accepted = refl; editing = []; edits = λ k. refl }
 ends b s m c is = absurd (cc)
 
 pub reshaping_apply : ReshapingApplyLaw

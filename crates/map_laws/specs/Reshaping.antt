@@ -4,9 +4,9 @@ use Rattle.std.specs.Prelude.{◌≡◌, Bool, true, false, IsTrue, List, [], �
 use Rattle.map_model.specs.Tree.{Whole}
 use Rattle.map_model.specs.Shape.{Shape}
 use Rattle.map_model.specs.Below.{Below, IsRight}
-use Rattle.map_model.specs.Commands.{Command, IsGood, Settings, Tex, Clip, Subtract, Intersect, Hollow}
+use Rattle.map_model.specs.Commands.{Command, IsGood, Settings, Tex, Clip, Subtract, Intersect, Hollow, Hull}
 use Rattle.map_model.specs.Replies.{Refusal}
-use Rattle.map_model.specs.Rows.{rows, first, no_node, repeated, wrong_kind, locked_layer, flat_plane, plane_misses, apart, not_box, thick, too_many_faces}
+use Rattle.map_model.specs.Rows.{rows, first, no_node, repeated, wrong_kind, locked_layer, flat_plane, plane_misses, apart, not_box, thick, too_many_points, no_volume, too_many_faces, out_of_world}
 use Rattle.map_model.specs.Apply.{Applied, apply}
 use Rattle.map_laws.specs.Unlinked.{Unlinked, apply_unlinked}
 use Rattle.map_laws.specs.BoxCommand.{KeepsMaterial}
@@ -17,6 +17,7 @@ is_reshaping_command (Clip part plane ns) = true
 is_reshaping_command (Subtract by ns) = true
 is_reshaping_command (Intersect ns) = true
 is_reshaping_command (Hollow thickness ns) = true
+is_reshaping_command (Hull points) = true
 is_reshaping_command c = false
 
 -- The rows that can refuse such a command.
@@ -36,6 +37,9 @@ reshaping_rows b s m (Intersect ns) =
 reshaping_rows b s m (Hollow thickness ns) =
     let c = Hollow thickness ns in
     no_node m c ∷ repeated c ∷ wrong_kind m c ∷ locked_layer m c ∷ not_box m c ∷ thick b m c ∷ []
+reshaping_rows b s m (Hull points) =
+    let c = Hull points in
+    too_many_points b m c ∷ no_volume b m c ∷ too_many_faces b s m c ∷ out_of_world b s m c ∷ []
 reshaping_rows b s m c = []
 
 -- The offsets and the scales of a texture are two each.
