@@ -142,10 +142,3 @@ unread false digits some v e = refl
 pub id_none : (text : List ℕ) → None ≡ number_of text → None ≡ read_id text
 unfolding number_of
 id_none text e = unread (nat_le 1 (length text) && nat_le (length text) 9) (all_ascii_digits text) (nat_lt 0 (digits_value 10 text)) (digits_value 10 text) e ∙ id_is text
-
--- ---- numbers in order
-
-pub numbers_map : {A : Type 0} (f : ℕ → A) (k : ℕ) → map f (numbers_from 0 (k + 1)) ≡ map f (numbers_from 0 k) ++ f k ∷ []
-numbers_map f k =
-    ap (λ n. map f (numbers_from 0 n)) (add-one k) ∙ ap (map f) (numbers-more 0 k)
-    ∙ Rattle.std.proofs.lemmas.List.map-append f (numbers_from 0 k) ((0 + k) ∷ []) ∙ ap (λ n. map f (numbers_from 0 k) ++ f n ∷ []) (Rattle.std.proofs.Common.zero-add k)

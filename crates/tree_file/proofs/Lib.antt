@@ -7,6 +7,7 @@ pub mod NoLinks
 pub mod ReadOne
 pub mod Placed
 pub mod RingWalk
+pub mod RingMarks
 pub mod Drawing
 pub mod Lying
 pub mod Pushing

@@ -5,3 +5,4 @@ pub mod Kinds
 pub mod Judging
 pub mod Passes
 pub mod Slots
+pub mod RingMarks
