@@ -1,12 +1,11 @@
 -- What is made of the faces of a file's brush by points is what they are judged to be.
-use Rattle.std.proofs.Common.{◌≡◌, ℕ, zero, suc, ◌+◌, ◌<◌, ◌≤◌, Bool, true, false, true≢false, ◌&&◌, nat_le, if◌then◌else◌, List, [], ◌∷◌, ◌++◌, map, length, get_or, take, drop, is_ok, Option, Some, None, Result, Ok, Err, refl, ap, sym, subst, ◌∙◌, arith, zero-add, pos, ◌<ℤ◌}
+use Rattle.std.proofs.Common.{◌≡◌, ℕ, zero, suc, ◌<◌, ◌≤◌, Bool, true, false, true≢false, ◌&&◌, nat_le, if◌then◌else◌, List, [], ◌∷◌, map, length, get_or, drop, is_ok, Option, Some, None, Result, Ok, Err, refl, ap, sym, subst, ◌∙◌, arith, pos, ◌<ℤ◌}
 use Rattle.std.specs.Option.{option_map_or}
 use Rattle.std.specs.Bool.{Decides}
 use Rattle.std.specs.List.{list_all}
-use Rattle.std.proofs.lemmas.Bool.{and_parts, cases_Bool}
+use Rattle.std.proofs.lemmas.Bool.{and_parts}
 use Rattle.std.proofs.lemmas.Bool.Decides.{Decides-like}
-use Rattle.std.proofs.lemmas.List.{length-map, take_more}
-use Rattle.std.proofs.lemmas.List.{length-take-le}
+use Rattle.std.proofs.lemmas.List.{length-map}
 use Rattle.algebra.specs.Members.{◌∈◌, here, there, Every}
 use Rattle.algebra.specs.Space.{HalfSpace, Homogeneous, dot}
 use Rattle.algebra.specs.World.{InCube, world, reach}
@@ -15,7 +14,7 @@ use Rattle.exact_geom.specs.declared.plane.PlaneFault.{PlaneFault}
 use Rattle.exact_geom.specs.declared.plane.PlaneFault.TheVariants.{PointRange, Flat}
 use Rattle.exact_geom.proofs.PlaneLaws.{normal_positive}
 use Rattle.trim_laws.specs.Solid.{IsIn, Proper, Bounded}
-use Rattle.trim_laws.specs.Trim.{IsKept, Trims, ends, keeps, drops, Trim, TrimsFaces, no_faces, keeps_face, drops_face, TrimFaces}
+use Rattle.trim_laws.specs.Trim.{IsKept, keeps, Trim, TrimsFaces, no_faces, keeps_face, drops_face, TrimFaces}
 use Rattle.trim_laws.specs.Valid.{Valid, HasInside, NoVolume, OutOfWorld, HasCause, no_volume, out_of_world, too_many_faces, is_no_volume, is_out_of_world, is_too_many}
 use Rattle.trim_laws.proofs.Bearing.{in_of_inside}
 use Rattle.trim_laws.proofs.Once.{valid}
@@ -31,9 +30,10 @@ use Rattle.map_text.specs.declared.document.RawBrush.TheVariants.{Faces}
 use Rattle.map_text.specs.Spelled.{is_spelled_brush, is_savable_face, is_savable_texture}
 use Rattle.map_lex.specs.OneToken.{is_material_text}
 use Rattle.solid_brush.specs.declared.side.Side.{Side}
-use Rattle.solid_brush.specs.Sides.{bounds, HaveTags, DistinctTags, no_sides, one_more_side, IsSolid, IsBuiltOf}
+use Rattle.solid_brush.specs.Sides.{bounds, HaveTags, IsSolid, IsBuiltOf}
 use Rattle.solid_brush.specs.Sides as solid
 use Rattle.map_nodes.specs.Seen.{sides_from, sides_of}
+use Rattle.map_nodes.proofs.FaceSides.{spaces, sides_length, have_tags, tags_within, kept_of, whole_kept}
 use Rattle.exact_geom.specs.declared.point.Point.{Point}
 use Rattle.map_model.specs.Faces.{Face, StandardFields}
 use Rattle.map_model.specs.Shape.{half_spaces}
@@ -75,70 +75,6 @@ proper_of fs h F i =
     let r = of_map (λ f. half_space f.plane) fs F i in
     subst (λ (k : HalfSpace). pos 0 <ℤ dot k.normal k.normal) (sym r.2)
     (normal_positive r.0.plane (plane_is r.0.plane (and_parts (is_ok (plane_of r.0.plane)) (is_material_text r.0.material && is_savable_texture r.0.tex) (each_passes is_savable_face fs h r.0 r.1)).0))
-
--- ---- faces and their sides
-
-pub spaces : (k : ℕ) (fs : List Face) → solid.half_spaces (sides_from k fs) ≡ half_spaces fs
-spaces k [] = refl
-spaces k (f ∷ fs) = ap (λ F. half_space f.plane ∷ F) (spaces (suc k) fs)
-
-pub sides_length : (k : ℕ) (fs : List Face) → length (sides_from k fs) ≡ length fs
-sides_length k [] = refl
-sides_length k (f ∷ fs) = ap suc (sides_length (suc k) fs)
-
-tag_low : (k : ℕ) (fs : List Face) (s : Side) → s ∈ sides_from k fs → (k ≤ s.tag) × (s.tag < k + length fs)
-tag_low k [] s i = elim i [ ]
-tag_low k (f ∷ fs) s here = (omega arith, omega arith)
-tag_low k (f ∷ fs) s (there i) = let r = tag_low (suc k) fs s i in let a = r.0 in let b = r.1 in (omega arith, omega arith)
-
-tags_apart : (k : ℕ) (fs : List Face) → DistinctTags (sides_from k fs)
-tags_apart k [] = no_sides
-tags_apart k (f ∷ fs) = one_more_side (λ t i e. apart k t (tag_low (suc k) fs t i).0 e) (tags_apart (suc k) fs)
-  where
-    apart : (k : ℕ) (t : Side) → suc k ≤ t.tag → k ≡ t.tag → ⊥
-    apart k t w e = omega arith
-
-pub have_tags : (fs : List Face) → length fs ≤ 256 → HaveTags (sides_of fs)
-have_tags fs few = record { distinct = tags_apart 0 fs; small = λ s i. let r = (tag_low 0 fs s i).1 in omega arith }
-
-pub tags_within : (fs : List Face) → Every (λ s. s.tag < length fs) (sides_of fs)
-tags_within fs s i = let r = (tag_low 0 fs s i).1 in omega arith
-
--- ---- what trimming keeps
-
-pub kept_of : {A : Type 0} {plane : A → HalfSpace} {F earlier rest kept : List A} → TrimsFaces plane F earlier rest kept → (x : A) → x ∈ kept → x ∈ rest
-kept_of no_faces x i = i
-kept_of (keeps_face k t) x here = here
-kept_of (keeps_face k t) x (there i) = there (kept_of t x i)
-kept_of (drops_face k t) x i = there (kept_of t x i)
-
-pub kept_fewer : {A : Type 0} {plane : A → HalfSpace} {F earlier rest kept : List A} → TrimsFaces plane F earlier rest kept → length kept ≤ length rest
-kept_fewer no_faces = omega arith
-kept_fewer (keeps_face k t) = let h = kept_fewer t in omega arith
-kept_fewer (drops_face k t) = let h = kept_fewer t in omega arith
-
-pub kept_same : {A : Type 0} {plane : A → HalfSpace} {F earlier rest kept : List A} → TrimsFaces plane F earlier rest kept → length rest ≤ length kept → kept ≡ rest
-kept_same no_faces l = refl
-kept_same (keeps_face {f = f} k t) l = ap (λ xs. f ∷ xs) (kept_same t (omega arith))
-kept_same (drops_face k t) l = absurd (let h = kept_fewer t in omega arith)
-
-trims_fewer : {F earlier rest kept : List HalfSpace} → Trims F earlier rest kept → length kept ≤ length rest
-trims_fewer ends = omega arith
-trims_fewer (keeps k t) = let h = trims_fewer t in omega arith
-trims_fewer (drops k t) = let h = trims_fewer t in omega arith
-
-whole_kept : {A : Type 0} (plane : A → HalfSpace) (F earlier rest : List A) {kept : List HalfSpace} → length rest ≤ length kept → Trims (map plane F) (map plane earlier) (map plane rest) kept →
-    TrimsFaces plane F earlier rest rest
-whole_kept plane F earlier [] l t = no_faces
-whole_kept plane F earlier (f ∷ rest) l (keeps k t) = keeps_face k (whole_kept plane F (f ∷ earlier) rest (omega arith) t)
-whole_kept plane F earlier (f ∷ rest) l (drops k t) = let h = trims_fewer t in let e = length-map rest plane in absurd (omega arith)
-
--- a solid of the sides of a brush is these sides
-pub solid_is : (fs : List Face) (s : List Side) → Valid (half_spaces fs) → IsBuiltOf (sides_of fs) s → s ≡ sides_of fs
-solid_is fs s ok built =
-    let brush : Valid (solid.half_spaces (sides_of fs)) = subst Valid (sym (spaces 0 fs)) ok in
-    let all = whole_kept bounds (sides_of fs) [] (sides_of fs) (let e = length-map (sides_of fs) bounds in omega arith) brush.trimmed in
-    (trim_faces Side bounds (sides_of fs) s built.trim).only (sides_of fs) all
 
 -- ---- faces of sides
 
@@ -244,17 +180,6 @@ judged_many fs n proper (is_too_many some stays many) b right =
     (let e = length-map (trimmed b fs) meant.plane_of in let k = ap length same in let c = many.count in let a = many.above in omega arith)
 
 -- ---- what the code asks
-
--- one side more
-sides_append : (k : ℕ) (xs : List Face) (x : Face) → sides_from k (xs ++ x ∷ []) ≡ sides_from k xs ++ record { plane = x.plane; tag = k + length xs } ∷ []
-sides_append k [] x = λ i. record { plane = x.plane; tag = (let e : k ≡ k + 0 = omega arith in e) i } ∷ []
-sides_append k (y ∷ xs) x = ap (λ l. record { plane = y.plane; tag = k } ∷ l)
-    (sides_append (suc k) xs x ∙ ap (λ n. sides_from (suc k) xs ++ record { plane = x.plane; tag = n } ∷ []) (let e : suc k + length xs ≡ k + suc (length xs) = omega arith in e))
-
-pub sides_more : (fs : List Face) (i : ℕ) (f : Face) → i < length fs → f ≡ get_or fs i f → sides_of (take (i + 1) fs) ≡ sides_of (take i fs) ++ record { plane = f.plane; tag = i } ∷ []
-sides_more fs i f lt is =
-    ap sides_of (take_more fs i f lt) ∙ sides_append 0 (take i fs) (get_or fs i f)
-    ∙ (λ j. sides_of (take i fs) ++ record { plane = (sym is j).plane; tag = (zero-add (length (take i fs)) ∙ length-take-le i fs (let w : i ≤ length fs = omega arith in w)) j } ∷ [])
 
 -- the faces of a brush are all needed
 pub all_needed : (fs : List Face) → Valid (half_spaces fs) → (TrimFaces meant.plane_of fs fs) × (length fs ≤ 128)

@@ -1,5 +1,5 @@
 -- The properties that stay, and readings, one after another.
-use Rattle.std.proofs.Common.{◌≡◌, inl, inr, ℕ, zero, suc, ◌+◌, ◌<◌, ◌≤◌, Bool, true, false, cond, not, ◌&&◌, nat_lt, nat_le, List, [], ◌∷◌, ◌++◌, map, length, get_or, take, drop, drop-cons, add-one, filter, Some, None, Option, refl, ap, sym, ◌∙◌, subst, arith, bytes_eq, if◌then◌else◌}
+use Rattle.std.proofs.Common.{◌≡◌, inl, inr, ℕ, zero, suc, ◌+◌, ◌<◌, ◌≤◌, Bool, true, false, cond, not, ◌&&◌, nat_lt, nat_le, List, [], ◌∷◌, ◌++◌, map, length, get_or, take, drop, drop-cons, add-one, filter, Some, None, refl, ap, sym, ◌∙◌, subst, arith, bytes_eq, if◌then◌else◌}
 use Rattle.std.specs.List.{list_all}
 use Rattle.std.proofs.lemmas.Bool.{cases_Bool, and_parts, and_from, not-true, false_from_ne_true, both_ways, lt-ltb, le-leb}
 use Rattle.std.proofs.lemmas.List.{take_more, length-take-le}
@@ -9,8 +9,7 @@ use Rattle.uv_lock.specs.declared.texture.Format.{Format}
 use Rattle.map_text.specs.declared.document.RawEntity.{RawEntity}
 use Rattle.map_text.specs.Meaning.{put_property, value_of_key}
 use Rattle.map_text.specs.Spelled.{keys_are_distinct}
-use Rattle.map_model.specs.Tree.{Kind, Props, numbers_from}
-use Rattle.tree_node.proofs.Turns.{numbers-more}
+use Rattle.map_model.specs.Tree.{Kind, Props}
 use Rattle.file_laws.specs.Leaves.{Leaves}
 use Rattle.file_laws.specs.Readings.{stays, kept_props, reading, readings_from}
 use Rattle.std.specs.Str.{all_ascii_digits}
@@ -56,15 +55,22 @@ put_new key value (p ∷ ps) h =
     ap (λ b. if b then (key, value) ∷ ps else p ∷ put_property key value ps) (not-true (bytes_eq p.0 key) r.0) ∙ ap (λ l. p ∷ l) (put_new key value ps r.1)
 
 -- one property more that stays, or that doesn't
-pub kept_one : (k : Kind) (ps : Props) (i : ℕ) (key value : List ℕ) → keys_are_distinct ps ≡ true → i < length ps → (key, value) ≡ get_or ps i (key, value) → stays k (key, value) ≡ true →
+kept_one : (k : Kind) (ps : Props) (i : ℕ) (key value : List ℕ) → keys_are_distinct ps ≡ true → i < length ps → (key, value) ≡ get_or ps i (key, value) → stays k (key, value) ≡ true →
     put_property key value (kept_props k (take i ps)) ≡ kept_props k (take (i + 1) ps)
 kept_one k ps i key value d lt is h =
     put_new key value (filter (stays k) (take i ps)) (all_filtered (λ p. not (bytes_eq p.0 key)) (stays k) (take i ps) (apart_before ps d i (key, value) lt is))
     ∙ sym (filter_in (stays k) ps i (key, value) lt is h)
 
-pub left_one : (k : Kind) (ps : Props) (i : ℕ) (key value : List ℕ) → i < length ps → (key, value) ≡ get_or ps i (key, value) → stays k (key, value) ≡ false →
+left_one : (k : Kind) (ps : Props) (i : ℕ) (key value : List ℕ) → i < length ps → (key, value) ≡ get_or ps i (key, value) → stays k (key, value) ≡ false →
     kept_props k (take i ps) ≡ kept_props k (take (i + 1) ps)
 left_one k ps i key value lt is h = sym (filter_out (stays k) ps i (key, value) lt is h)
+
+pub kept_more : (k : Kind) (ps : Props) (i : ℕ) (key value : List ℕ) → keys_are_distinct ps ≡ true → i < length ps → (key, value) ≡ get_or ps i (key, value) →
+    cond (stays k (key, value)) (put_property key value (kept_props k (take i ps))) (kept_props k (take i ps)) ≡ kept_props k (take (i + 1) ps)
+kept_more k ps i key value d lt is = elim (cases_Bool (stays k (key, value))) [
+  | inl e ↦ ap (λ b. cond b (put_property key value (kept_props k (take i ps))) (kept_props k (take i ps))) e ∙ kept_one k ps i key value d lt is e
+  | inr e ↦ ap (λ b. cond b (put_property key value (kept_props k (take i ps))) (kept_props k (take i ps))) e ∙ left_one k ps i key value lt is e
+]
 
 -- one item more of a list that is changed item by item
 pub map_more : {A B : Type 0} (f : A → B) (xs : List A) (i : ℕ) (x : A) → i < length xs → x ≡ get_or xs i x → map f (take (i + 1) xs) ≡ map f (take i xs) ++ f x ∷ []

@@ -27,7 +27,8 @@ use Rattle.map_model.proofs.Meaning.{trimmed_law}
 use Rattle.orient48.specs.MotionTexts.{words_of, wholes_in, kept_motion, is_last_row, motion_of_numbers}
 use Rattle.file_laws.specs.Leaves.{AreSound}
 use Rattle.file_laws.specs.FileLeaves.{file_leaves}
-use Rattle.tree_file.proofs.JudgedFaces.{plane_is, each_passes, spelled_faces, proper_of, kept_of, bounded_of, valid_of}
+use Rattle.map_nodes.proofs.FaceSides.{kept_of}
+use Rattle.tree_file.proofs.JudgedFaces.{plane_is, each_passes, spelled_faces, proper_of, bounded_of, valid_of}
 
 -- ---- brushes
 

@@ -15,28 +15,11 @@ ghost use Rattle.tree_file.specs.Judging.{AreFacesJudged, IsJudged};
 
 use crate::copies::copy_faces_of;
 use exact_geom::Rows;
-use map_nodes::Body;
+use map_nodes::{Body, sides_of};
 use map_text::{RawBrush, Reason};
-use solid_brush::{BuildFault, Side, Solid};
+use solid_brush::{BuildFault, Solid};
 use std::alloc::{AllocError, Global};
 use uv_lock::Face;
-
-// The sides of faces: each has its place as its tag.
-fn sides_of(alloc: Global, faces: &[Face]) -> Result<Vec<Side>, AllocError>
-    requires few { length faces.now ≤ 256 }
-    ensures { IfOk result (λ sides. sides.items ≡ sides_of faces.now) }
-{
-    let mut sides = Vec::with_capacity(alloc, faces.len())?;
-    let mut place = 0;
-    for face in faces {
-        sides.push(Side {
-            plane: face.plane,
-            tag: place,
-        })?;
-        place += 1;
-    }
-    Ok(sides)
-}
 
 // The solid of the faces of a brush. A brush is refused for want of memory alone.
 fn solid_of(alloc: Global, faces: &[Face]) -> Result<Solid, AllocError>

@@ -1,15 +1,15 @@
 //! What each entity of a document says by itself.
 
-ghost use Rattle.std.specs.Prelude.{◌≡◌, ◌<◌, ◌^◌, ◌+◌, ℕ, Bool, true, false, cond, not, ◌&&◌, ◌||◌, length, map, filter, option_map, option_and_then, unwrap_or, None, IfOk, IsTrue, codes, option_copied};
+ghost use Rattle.std.specs.Prelude.{◌≡◌, ◌<◌, ◌^◌, ◌+◌, ℕ, Bool, true, false, cond, not, ◌&&◌, ◌||◌, length, map, filter, option_map, option_and_then, unwrap_or, None, IfOk, OnOk, IsTrue, codes, option_copied};
 ghost use Rattle.std.specs.List.{list_all, list_any};
 ghost use Rattle.std.specs.Str.{bytes_eq};
-ghost use Rattle.map_text.specs.Meaning.{value_of_key};
+ghost use Rattle.map_text.specs.Meaning.{put_property, value_of_key};
 ghost use Rattle.map_text.specs.Spelled.{is_spelled_entity, is_spelled_brush, keys_are_distinct};
 ghost use Rattle.map_model.specs.Tree.{group, layer, has_kind, kind_of};
 ghost use Rattle.map_model.specs.Props.{has_key};
 ghost use Rattle.map_model.specs.Below.{Below, IsRight};
 ghost use Rattle.file_laws.specs.FileLeaves.{file_leaves};
-ghost use Rattle.file_laws.specs.Readings.{reading, readings_from, kept_props, node_in, text_in, is_locked, id_in, is_named, is_placed, judged};
+ghost use Rattle.file_laws.specs.Readings.{reading, readings_from, stays, kept_props, node_in, text_in, is_locked, id_in, is_named, is_placed, judged};
 ghost use Rattle.tree_file.specs.Kinds.{kind_of_part};
 ghost use Rattle.tree_file.specs.Promises.{asks_for_links};
 
@@ -140,16 +140,24 @@ impl Reading {
     }
 }
 
+// Puts a property in, if it stays.
+fn keep_pair(part: Part, kept: &mut Props, key: Text, value: Text) -> Result<(), AllocError>
+    ensures { OnOk result (kept.new ≡ cond (stays (kind_of_part part) (key, value)) (put_property key value kept.old) kept.old) }
+{
+    if is_taken(part, key.bytes()) {
+        return Ok(());
+    }
+    kept.put(key, value)
+}
+
 // The properties that stay.
-fn kept_props(alloc: Global, part: Part, props: &[(Text, Text)]) -> Result<Props, AllocError>
-    requires distinct { IsTrue (keys_are_distinct props.now) }
-    ensures { IfOk result (λ kept. kept ≡ kept_props (kind_of_part part) props.now) }
+fn kept_props(alloc: Global, part: Part, props: Rows<(Text, Text)>) -> Result<Props, AllocError>
+    requires distinct { IsTrue (keys_are_distinct props) }
+    ensures { IfOk result (λ kept. kept ≡ kept_props (kind_of_part part) props) }
 {
     let mut kept = Props::new(alloc);
-    for (key, value) in props {
-        if !is_taken(part, key.bytes()) {
-            kept.set(alloc, key.bytes(), value.bytes())?;
-        }
+    for (key, value) in props.into_vec() {
+        keep_pair(part, &mut kept, key, value)?;
     }
     Ok(kept)
 }
@@ -175,40 +183,39 @@ fn node_in(
     alloc: Global,
     format: Format,
     part: Part,
-    props: &[(Text, Text)],
+    props: Rows<(Text, Text)>,
 ) -> Result<Node, AllocError>
-    requires distinct { IsTrue (keys_are_distinct props.now) }
-    requires plain { value_of_key (codes "_tb_protected_properties") props.now ≡ None }
-    ensures { IfOk result (λ node. node ≡ node_in format props.now (kind_of_part part)) }
+    requires distinct { IsTrue (keys_are_distinct props) }
+    requires plain { value_of_key (codes "_tb_protected_properties") props ≡ None }
+    ensures { IfOk result (λ node. node ≡ node_in format props (kind_of_part part)) }
 {
-    let kept = kept_props(alloc, part, props)?;
     match part {
         Part::World => Ok(Node::World {
             format,
-            props: kept,
+            props: kept_props(alloc, part, props)?,
             brushes: Rows::of(Vec::new(alloc)),
             others: Rows::of(Vec::new(alloc)),
         }),
         Part::Layer => Ok(Node::Layer {
-            name: Text::of(alloc, text_in(b"_tb_name", props))?,
-            frozen: is_locked(props),
-            props: kept,
+            name: Text::of(alloc, text_in(b"_tb_name", props.list()))?,
+            frozen: is_locked(props.list()),
+            props: kept_props(alloc, part, props)?,
             brushes: Rows::of(Vec::new(alloc)),
             others: Rows::of(Vec::new(alloc)),
         }),
         Part::Group => Ok(Node::Group {
             parent: NodeId(0),
             mark: None,
-            name: Text::of(alloc, text_in(b"_tb_name", props))?,
+            name: Text::of(alloc, text_in(b"_tb_name", props.list()))?,
             link: None,
-            props: kept,
+            props: kept_props(alloc, part, props)?,
             brushes: Rows::of(Vec::new(alloc)),
             others: Rows::of(Vec::new(alloc)),
         }),
         Part::Entity => Ok(Node::Entity {
             parent: NodeId(0),
             mark: None,
-            props: kept,
+            props: kept_props(alloc, part, props)?,
             protected: Rows::of(Vec::new(alloc)),
             brushes: Rows::of(Vec::new(alloc)),
         }),
@@ -302,12 +309,12 @@ fn read_entity(
     let part = part_in(place, pairs);
     Ok(Reading {
         place,
-        node: node_in(alloc, format, part, pairs)?,
         id: own_id(part, pairs),
         in_group: named_id(part, b"_tb_group", pairs),
         in_layer: named_id(part, b"_tb_layer", pairs),
         names_parent: names_parent(part, pairs),
         brushes: outcomes,
+        node: node_in(alloc, format, part, props)?,
     })
 }
 

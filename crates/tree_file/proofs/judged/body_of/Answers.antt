@@ -4,7 +4,8 @@ use Rattle.trim_laws.specs.Trim.{TrimFaces}
 use Rattle.trim_laws.specs.Valid.{Valid}
 use Rattle.map_model.specs.Shape.{half_spaces}
 use Rattle.map_model.specs.Meant.{plane_of}
-use Rattle.tree_file.proofs.JudgedFaces.{kept_same, sides_length, all_needed, solid_of_all, copied, kept_within, some_face}
+use Rattle.map_nodes.proofs.FaceSides.{kept_same, sides_length}
+use Rattle.tree_file.proofs.JudgedFaces.{all_needed, solid_of_all, copied, kept_within, some_face}
 use Rattle.tree_file.proofs.judged.body_of.Goals as goal
 
 pub of-requires : goal.of-requires

@@ -1,6 +1,6 @@
 use Rattle.std.proofs.Common.{◌≤◌, length, sym, subst, ◌∙◌, arith}
 use Rattle.solid_brush.specs.Sides.{HaveTags, IsBuiltOf}
-use Rattle.tree_file.proofs.JudgedFaces.{sides_length, have_tags, solid_is}
+use Rattle.map_nodes.proofs.FaceSides.{sides_length, have_tags, solid_is}
 use Rattle.tree_file.proofs.judged.solid_of.Goals as goal
 
 pub build-requires-clause-few : goal.build-requires-clause-few
@@ -13,5 +13,5 @@ build-requires-clause-tags c = subst HaveTags (sym (c.deref.ensures.value ∙ c.
 
 pub returns-in-Ok : goal.returns-in-Ok
 returns-in-Ok c =
-    solid_is c.args.faces.now c.in-Ok.solid c.requires.valid
+    solid_is c.args.faces.now c.in-Ok.solid c.requires.valid.trimmed
     (subst (λ l. IsBuiltOf l c.in-Ok.solid) (c.deref.ensures.value ∙ c.in_ok-sides.ensures) c.in-Ok.ensures.built)

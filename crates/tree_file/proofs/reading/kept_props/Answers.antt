@@ -1,24 +1,30 @@
-use Rattle.std.proofs.Common.{ap, not, sym, ◌∙◌}
+use Rattle.std.proofs.Common.{ℕ, ◌<◌, List, cond, length, take, take_all, get_or, ap, sym, subst, ◌∙◌, arith}
+use Rattle.std.proofs.lemmas.List.{length_push}
+use Rattle.std.proofs.lemmas.Iterator.Adapters.{YieldsList-from_vec}
+use Rattle.std.proofs.lemmas.Iterator.Consumers.{YieldsList-turn, YieldsList-end}
 use Rattle.map_text.specs.Meaning.{put_property}
-use Rattle.map_model.specs.Shape.{taken_keys}
-use Rattle.map_model.specs.Props.{is_text_among}
+use Rattle.map_model.specs.Tree.{Props}
+use Rattle.file_laws.specs.Readings.{stays, kept_props}
 use Rattle.tree_file.specs.Kinds.{kind_of_part}
-use Rattle.tree_file.proofs.Kept.{kept_one, left_one}
+use Rattle.tree_file.proofs.Kept.{kept_more}
 use Rattle.tree_file.proofs.reading.kept_props.Goals as goal
-use Rattle.tree_file.proofs.reading.kept_props.Goals.{then-not-is_taken+in_ok-set, else-not-is_taken}
 
 pub loop-key-preserved : goal.loop-key-preserved
 loop-key-preserved c =
     let k = kind_of_part c.args.part in
-    let props = c.args.props.now in
-    let i = c.loop-key.key-index in
-    let p = c.loop-key-item.result in
-    let taken = ap (λ t. is_text_among t (taken_keys k)) (sym c.bytes.ensures) ∙ sym c.is_taken.ensures in
-    elim c.if-not-is_taken.branch [
-      | then-not-is_taken+in_ok-set w ↦
-          w.kept-is ∙ w.in_ok-set.ensures.ok
-          ∙ (λ j. put_property (w.bytes-then-not-is_taken.ensures j) (w.bytes-then-not-is_taken-2.ensures j) (c.loop-key.invariant j))
-          ∙ kept_one k props i p.0 p.1 c.requires.distinct c.loop-key-test.true c.loop-key-item.is (ap not (taken ∙ w.if-not-is_taken.true))
-      | else-not-is_taken w ↦
-          w.kept-is ∙ c.loop-key.invariant ∙ left_one k props i p.0 p.1 c.loop-key-test.true c.loop-key-item.is (ap not (taken ∙ w.if-not-is_taken.false))
-    ]
+    let i = length c.loop-key.yielded in
+    let p : List ℕ × List ℕ = (c.in-Some.key, c.in-Some.value) in
+    let g = c.into_iter-key-iterator.ensures.into_iter_gives in
+    let t = YieldsList-turn (YieldsList-from_vec {s = c.into_iter-key-iterator.result} c.into_vec-key-items.result.items g.0 (g.1 ∙ c.into_vec-key-items.result.ok.0)) c.loop-key.yielded c.loop-key.key-iterator c.loop-key.yielded_by c.next.result c.next.new.self p c.in-Some.is c.next.ensures.steps in
+    let lt = subst (λ (l : Props). i < length l) c.into_vec-key-items.ensures t.0 in
+    let is = t.1 ∙ ap (λ l. get_or l i p) c.into_vec-key-items.ensures in
+    c.in_ok-keep_pair.ensures ∙ ap (λ l. cond (stays k p) (put_property p.0 p.1 l) l) c.loop-key.invariant
+    ∙ kept_more k c.args.props i p.0 p.1 c.requires.distinct lt is ∙ ap (λ n. kept_props k (take n c.args.props)) (sym (length_push c.loop-key.yielded p))
+
+pub returns : goal.returns
+returns c =
+    let g = c.into_iter-key-iterator.ensures.into_iter_gives in
+    let t = YieldsList-end (YieldsList-from_vec {s = c.into_iter-key-iterator.result} c.into_vec-key-items.result.items g.0 (g.1 ∙ c.into_vec-key-items.result.ok.0)) c.loop-key.yielded c.loop-key.key-iterator c.loop-key.yielded_by c.next.result c.next.new.self c.in-None.is c.next.ensures.steps in
+    let all = t.1 in
+    let same = ap length c.into_vec-key-items.ensures in
+    c.loop-key.invariant ∙ ap (kept_props (kind_of_part c.args.part)) (take_all (length c.loop-key.yielded) c.args.props (omega (arith, all, same)))

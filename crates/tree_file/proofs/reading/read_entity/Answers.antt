@@ -1,7 +1,6 @@
 use Rattle.std.proofs.Common.{◌≡◌, true, None, cond, map, codes, ◌&&◌, ◌||◌, ap, sym, subst, ◌∙◌}
 use Rattle.std.specs.List.{list_all}
-use Rattle.map_text.specs.Meaning.{value_of_key}
-use Rattle.map_text.specs.Spelled.{is_spelled_brush, keys_are_distinct}
+use Rattle.map_text.specs.Spelled.{is_spelled_brush}
 use Rattle.map_model.specs.Props.{value_at, has_key}
 use Rattle.file_laws.specs.FileLeaves.{file_leaves}
 use Rattle.file_laws.specs.Readings.{kind_in, node_in, id_in, is_named, is_placed, motion_from, judged}
@@ -13,8 +12,8 @@ judge_all-requires c = record { spelled = subst (λ l. list_all is_spelled_brush
 
 pub node_in-requires : goal.node_in-requires
 node_in-requires c = record {
-  distinct = subst (λ l. keys_are_distinct l ≡ true) (sym c.list-pairs.ensures) (spelled_parts c.args.raw c.requires.spelled).distinct;
-  plain = ap (value_of_key (codes "_tb_protected_properties")) c.list-pairs.ensures ∙ protects_none c.args.raw c.requires.plain;
+  distinct = (spelled_parts c.args.raw c.requires.spelled).distinct;
+  plain = protects_none c.args.raw c.requires.plain;
 }
 
 pub returns : goal.returns
@@ -25,7 +24,7 @@ returns c b right =
     let kind = ap (kind_in c.args.place) ps ∙ sym c.part_in-part.ensures in
     λ i. record {
       place = c.args.place;
-      node = ((λ j. node_in c.args.format (ps j) (kind j)) ∙ sym c.in_ok-node_in.ensures) i;
+      node = (ap (node_in c.args.format raw.props) kind ∙ sym c.in_ok-node_in.ensures) i;
       id = ((λ j. cond (is_named (kind j)) (id_in (codes "_tb_id") (ps j)) None) ∙ sym c.own_id.ensures) i;
       in_group = ((λ j. cond (is_placed (kind j)) (id_in (codes "_tb_group") (ps j)) None) ∙ sym c.named_id.ensures) i;
       in_layer = ((λ j. cond (is_placed (kind j)) (id_in (codes "_tb_layer") (ps j)) None) ∙ sym c.named_id-2.ensures) i;
