@@ -36,3 +36,8 @@ pub mod Ordered
 pub mod CutTrims
 pub mod Tagging
 pub mod Whole
+pub mod SlotNames
+pub mod ChangedSlot
+pub mod MovedCorner
+pub mod TurnedRound
+pub mod MovedArenas

@@ -34,7 +34,7 @@ some_is {A} {x} {y} q = cc
 positive_other : {a b : ℤ} → b ≡ neg_ℤ a → a <ℤ pos 0 → pos 0 <ℤ b
 positive_other {a} {b} e h = omega (arith, ints)
 
-same_of_independent : (f g h : HalfSpace) (p q : Homogeneous) → ¬ (det f.normal g.normal h.normal ≡ pos 0) →
+pub same_of_independent : (f g h : HalfSpace) (p q : Homogeneous) → ¬ (det f.normal g.normal h.normal ≡ pos 0) →
     side f p ≡ pos 0 → side g p ≡ pos 0 → side h p ≡ pos 0 → side f q ≡ pos 0 → side g q ≡ pos 0 → side h q ≡ pos 0 → SamePoint p q
 same_of_independent f g h p q n a b c x y z = by_sign (det f.normal g.normal h.normal)
     (λ l. same_of_three g f h p q (positive_other (det-swap_12 f.normal g.normal h.normal) l) b a c y x z)
@@ -74,7 +74,7 @@ module _ {V : ℕ → Option Homogeneous} {E : ℕ → Option HalfEdge} {Fc : �
       subst (λ n. n < limit) (sym (get_map slot_of order i (record { 0 = 0 }) 0 k)) (within (get_or order i (record { 0 = 0 })).0 x.it x.is)
 
   module _ (numbers : List ℕ) (placed : ArePlaces (map slot_of order) numbers (length order)) (names : List Name) (has : HasNames E numbers (length order) names) (long : (x : ℕ) (v : Homogeneous) → V x ≡ Some v → x < length names) where
-    named_vertex : (x : ℕ) → HasVertex L x → IsName F (L.point x) (triple (get_or names x no_name))
+    pub named_vertex : (x : ℕ) → HasVertex L x → IsName F (L.point x) (triple (get_or names x no_name))
     named_vertex x h = let v = there (V x) h in is_name sh numbers placed x (get_or names x no_name) has.limit h has.within (has.names_below x (long x v.it v.is))
 
     abbrev at : Corner → Homogeneous

@@ -28,11 +28,11 @@ use Rattle.half_poly.proofs.Shaping.{side_is}
 use Rattle.half_poly.proofs.Halves.{is_edge}
 
 -- the numbers below n
-below : ℕ → List ℕ
+pub below : ℕ → List ℕ
 below zero = []
 below (suc n) = n ∷ below n
 
-in_below : (n k : ℕ) → k < n → k ∈ below n
+pub in_below : (n k : ℕ) → k < n → k ∈ below n
 unfolding below
 in_below zero k l = absurd (omega arith)
 in_below (suc n) k l = ⊎_elim (λ (i : k < n). further (in_below n k i)) (λ (i : n ≤ k). let e : k ≡ n = omega arith in subst (λ j. j ∈ (n ∷ below n)) (sym e) here) (cases_lt k n)

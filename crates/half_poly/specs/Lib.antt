@@ -19,3 +19,5 @@ pub mod Tags
 pub mod Edges
 pub mod Trims
 pub mod Polyhedron
+pub mod Turned
+pub mod Moving

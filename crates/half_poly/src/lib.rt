@@ -15,6 +15,8 @@ mod judging;
 mod laws;
 mod links;
 mod loops;
+mod moved;
+mod moving;
 mod names;
 mod ordering;
 mod pairs;
@@ -26,6 +28,7 @@ mod shape;
 mod signs;
 mod tags;
 mod taking;
+mod turning;
 
 pub use cut::Cut;
 pub use laws::{

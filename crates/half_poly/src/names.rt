@@ -5,7 +5,8 @@ ghost use Rattle.algebra.specs.Space.{Homogeneous};
 ghost use Rattle.exact_geom.specs.Vertices.{IsReduced};
 ghost use Rattle.half_arena.specs.Slots.{contents};
 ghost use Rattle.half_poly.specs.declared.links.HalfEdge.{HalfEdge};
-ghost use Rattle.half_poly.specs.Names.{with_number, NamesBelow, HasNames, AreCorners, InOrder, corner_id, AreNamed};
+ghost use Rattle.half_poly.specs.Names.{with_number, NamesBelow, HasNames, AreCorners, InOrder, corner_id, AreNamed, no_name};
+ghost use Rattle.half_poly.specs.Moving.{AreSlotNames};
 ghost use Rattle.half_poly.specs.Places.{AreDistinct};
 ghost use Rattle.half_poly.specs.Shapes.{IsShape, sides_of, solid_of};
 
@@ -62,6 +63,20 @@ fn with_number(name: Name, number: usize) -> Name
         }
     } else {
         name
+    }
+}
+
+/// The name in a table, or one of zeros past its end.
+pub(crate) fn name_at(names: &[Name], place: usize) -> Name
+    ensures { result ≡ get_or names.now place no_name }
+{
+    match names.get(place) {
+        Some(name) => *name,
+        None => Name {
+            first: 0,
+            second: 0,
+            third: 0,
+        },
     }
 }
 
@@ -192,4 +207,20 @@ pub(crate) fn named(
     let corners = sorted_corners(alloc, vertices, &names)?;
     let ids = ids_of(alloc, &corners)?;
     Ok(ids)
+}
+
+/// The names of the vertices, by their slots.
+pub(crate) fn slot_names(
+    alloc: Global,
+    vertices: &Vertices,
+    edges: &Edges,
+    faces: &Faces,
+    order: &[FaceId],
+) -> Result<Vec<Name>, AllocError>
+    requires shape { IsShape (contents vertices.now) (contents edges.now) (contents faces.now) order.now }
+    requires once { AreDistinct (map (λ id. id.0) order.now) }
+    ensures { IfOk result (λ names. AreSlotNames (contents vertices.now) (solid_of (sides_of (contents faces.now) order.now)) names.items) }
+{
+    let numbers = places_of(alloc, order, faces.place_limit())?;
+    names_of(alloc, edges, &numbers, order.len(), vertices.place_limit())
 }

@@ -232,15 +232,15 @@ impl Poly {
     }
 }
 
-// The face with this number, if there is one.
-fn face_at(faces: &Faces, order: &[FaceId], number: usize) -> Option<Face>
+/// The face with this number, if there is one.
+pub(crate) fn face_at(faces: &Faces, order: &[FaceId], number: usize) -> Option<Face>
     ensures { result ≡ option_and_then (λ id. contents faces.now id.0) (slice_get order.now number) }
 {
     faces.get(*order.get(number)?).copied()
 }
 
-// The plane of a face, if there is one.
-fn plane_of(face: Option<Face>) -> Option<Plane>
+/// The plane of a face, if there is one.
+pub(crate) fn plane_of(face: Option<Face>) -> Option<Plane>
     ensures { result ≡ option_map (λ f. f.plane) face }
 {
     Some(face?.plane)

@@ -8,3 +8,4 @@ pub mod Fewness
 pub mod Retagged
 pub mod Blocks
 pub mod Meeting
+pub mod MovedSides

@@ -1,3 +1,4 @@
 pub mod Sides
 pub mod Cutting
 pub mod Blocks
+pub mod Moved

@@ -1,10 +1,13 @@
 //! Valid brushes.
 
-ghost use Rattle.std.specs.Prelude.{◌≡◌, ◌+◌, ◌^◌, ◌<◌, ◌≤◌, ◌++◌, map, length, IfOk, IfErr, IfSome};
+ghost use Rattle.std.specs.Prelude.{◌≡◌, ◌+◌, ◌^◌, ◌<◌, ◌≤◌, ◌++◌, map, length, None, IfOk, IfErr, IfSome};
 ghost use Rattle.algebra.specs.Members.{Every};
+ghost use Rattle.exact_geom.specs.Planes.{first_out_of_range};
+ghost use Rattle.orient48.specs.Motions.{moved_plane};
 ghost use Rattle.solid_laws.specs.FaceLoop.{HasVertexCount, HasVertex, HasLoopVertex};
 ghost use Rattle.solid_brush.specs.Sides.{half_spaces, HaveTags, IsSolid, IsBuiltOf, IsRefusedFor, with_base};
 ghost use Rattle.solid_brush.specs.Blocks.{IsTrimmedTo, IsLeft, NeedsTooMany};
+ghost use Rattle.solid_brush.specs.Moved.{IsMovedOf};
 
 use crate::block::Block;
 use crate::cutting::{behind, sides_of};
@@ -14,6 +17,7 @@ use crate::side::{Side, add_to_tags};
 use crate::world::lies_in_world;
 use exact_geom::HVertex;
 use half_poly::Poly;
+use orient48::Motion;
 use std::alloc::{AllocError, Global};
 use std::marker::Model;
 
@@ -125,6 +129,21 @@ impl Solid {
         ensures vertex { HasLoopVertex (half_spaces self.now) face k result }
     {
         number_as_u32(self.poly.loop_of_face(face as usize, k as usize))
+    }
+
+    /// The brush of the moved sides, each with its tag. `None` exactly where a vertex leaves the world.
+    ///
+    /// It is moved as it stands, without a cut: its time grows with the number of its vertices and edges, times a logarithm at
+    /// most.
+    pub fn moved(&self, alloc: Global, motion: &Motion) -> Result<Option<Solid>, AllocError>
+        requires in_range { Every (λ s. first_out_of_range (moved_plane motion.now s.plane) ≡ None) self.now }
+        ensures moved { IfOk result (IsMovedOf motion.now self.now) }
+    {
+        let Some(poly) = self.poly.moved(alloc, motion)? else {
+            return Ok(None);
+        };
+        let sides = sides_of(alloc, &poly)?;
+        Ok(Some(Solid { sides, poly }))
     }
 
     /// Adds a number to each tag.
