@@ -41,3 +41,4 @@ pub mod ChangedSlot
 pub mod MovedCorner
 pub mod TurnedRound
 pub mod MovedArenas
+pub mod MovedSlots
