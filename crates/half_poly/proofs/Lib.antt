@@ -42,3 +42,4 @@ pub mod MovedCorner
 pub mod TurnedRound
 pub mod MovedArenas
 pub mod MovedSlots
+pub mod MovedShape

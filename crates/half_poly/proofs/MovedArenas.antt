@@ -1,5 +1,5 @@
 -- Arenas that a motion moves.
-use Rattle.std.proofs.Common.{◌≡◌, ℕ, ◌<◌, Bool, true, false, IsTrue, List, [], ◌∷◌, length, get_or, map, slice_get, Option, Some, None, IsSome, is_some, refl, sym, ap, subst, ◌∙◌, inl, inr, ◌⊎◌, ℤ, pos, negsuc, ◌+ℤ◌, ◌*ℤ◌, ◌<ℤ◌}
+use Rattle.std.proofs.Common.{◌≡◌, ℕ, ◌<◌, Bool, true, false, IsTrue, List, [], ◌∷◌, length, get_or, map, slice_get, Option, Some, None, IsSome, is_some, refl, sym, ap, subst, ◌∙◌, arith, inl, inr, ◌⊎◌, ℤ, pos, negsuc, ◌+ℤ◌, ◌*ℤ◌, ◌<ℤ◌}
 use Rattle.std.specs.Option.{option_map, option_map_or, option_and_then}
 use Rattle.std.proofs.lemmas.Int.{ints}
 use Rattle.std.proofs.lemmas.Option.{slice_get-get_or}
@@ -85,7 +85,7 @@ no_plane_stays : (r : Motion) → moved_half r no_plane ≡ no_plane
 no_plane_stays r = (λ i. record { normal = no_normal r i; distance = pos 0 +ℤ dot (no_normal r i) r.shift }) ∙ (λ i. record { normal = zero_vector; distance = no_distance r.shift i })
 
 not_zero : (m d : ℤ) → (m ≡ negsuc 0) ⊎ (m ≡ pos 1) → ¬ (d ≡ pos 0) → ¬ (m *ℤ d ≡ pos 0)
-not_zero m d (inl e) n z = let y : negsuc 0 *ℤ d ≡ pos 0 = ap (λ k. k *ℤ d) (sym e) ∙ z in n (omega (ints))
+not_zero m d (inl e) n z = let y : negsuc 0 *ℤ d ≡ pos 0 = ap (λ k. k *ℤ d) (sym e) ∙ z in n (omega (arith, ints))
 not_zero m d (inr e) n z = n (sym (once d) ∙ ap (λ k. k *ℤ d) (sym e) ∙ z)
 
 same_in_world : (p q : Homogeneous) → pos 0 <ℤ p.weight → pos 0 <ℤ q.weight → SamePoint p q → InCube world q → InCube world p
@@ -250,7 +250,7 @@ module _ {V : ℕ → Option Homogeneous} {E : ℕ → Option HalfEdge} {Fc : �
           by (Some h) = refl
 
       abbrev M : Links
-      M = turned_links (before F sh.neat sh.stands a.table a.within a.before) (moved_links r L)
+      M = turned_links (before V E Fc F sh.neat sh.stands a.table a.within a.before) (moved_links r L)
 
       links_turned : links V2 E2 F2 ≡ record M { origin = (links V2 E2 F2).origin; next = (links V2 E2 F2).next }
       links_turned = λ i. record {
@@ -277,14 +277,14 @@ module _ {V : ℕ → Option Homogeneous} {E : ℕ → Option HalfEdge} {Fc : �
           read (λ (k : HalfEdge). k.origin.0) 0 (turned_there e h) ∙ ap (λ (k : VertId). k.0) (read (λ (k : HalfEdge). k.origin) x.it.origin (ap E (sym q) ∙ y.is)) ∙ sym (read (λ (k : HalfEdge). k.origin.0) 0 y.is)
 
       next_is : (e : ℕ) → HasEdge L e → (links V2 E2 F2).next e ≡ M.next e
-      next_is e h = read (λ (k : HalfEdge). k.next.0) 0 (turned_there e h) ∙ next_noted F sh.neat sh.stands a.table a.within a.before e h (there (E e) h).it.next
+      next_is e h = read (λ (k : HalfEdge). k.next.0) 0 (turned_there e h) ∙ next_noted V E Fc F sh.neat sh.stands a.table a.within a.before e h (there (E e) h).it.next
 
     stands : (E2 : ℕ → Option HalfEdge) (flips : Bool) → flips ≡ is_flip r.matrix → AreMovedEdges flips E E2 → StandsMoved r F (links V2 E2 F2)
     stands E2 false e q = let m = kept_is r F L signed (sym e) sh.neat sh.stands in record {
       neat = m.neat;
       stands = subst (StandsFor (moved_list r F)) (sym (ap (λ X. links V2 X F2) q ∙ links_kept)) m.stands;
     }
-    stands E2 true e a = let m = turned_round_is r F L (before F sh.neat sh.stands a.table a.within a.before) signed (sym e) sh.neat sh.stands (leads_back F sh.neat sh.stands a.table a.within a.before) in record {
+    stands E2 true e a = let m = turned_round_is r F L (before V E Fc F sh.neat sh.stands a.table a.within a.before) signed (sym e) sh.neat sh.stands (leads_back V E Fc F sh.neat sh.stands a.table a.within a.before) in record {
       neat = m.neat;
       stands = subst (StandsFor (moved_list r F)) (sym (links_turned E2 a)) (stands_like (moved_list r F) (M E2 a) (links V2 E2 F2).origin (links V2 E2 F2).next (origin_is E2 a) (next_is E2 a) m.stands);
     }

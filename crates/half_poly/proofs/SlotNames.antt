@@ -1,5 +1,5 @@
 -- The names of the vertices, by their slots.
-use Rattle.std.proofs.Common.{◌≡◌, ℕ, ◌<◌, List, length, get_or, map, Option, Some, sym, subst}
+use Rattle.std.proofs.Common.{◌≡◌, ℕ, ◌<◌, List, length, get_or, map, Option, Some, Result, Ok, Err, IfOk, sym, subst}
 use Rattle.algebra.specs.Space.{Homogeneous}
 use Rattle.solid_laws.specs.Names.{MeetAt}
 use Rattle.half_poly.specs.declared.links.HalfEdge.{HalfEdge}
@@ -21,3 +21,7 @@ pub slot_names : {V : ℕ → Option Homogeneous} {E : ℕ → Option HalfEdge} 
 slot_names {V} {E} {Fc} {order} sh numbers read_numbers names limit r placed has long within x v q =
     let n = named_vertex sh numbers placed names (subst (λ l. HasNames E l (length order) names) r has) (λ y u e. subst (λ k. y < k) (sym long) (within y u e)) x (live_is q) in
     subst (λ p. MeetAt (solid_of (sides_of Fc order)) (triple_of (get_or names x no_name)) p) (read (λ (u : Homogeneous). u) nowhere q) n.meet
+
+pub if_both : {A E : Type 0} (P Q R : A → Type 0) → ((a : A) → P a → Q a → R a) → (r : Result A E) → IfOk r P → IfOk r Q → IfOk r R
+if_both P Q R f (Ok a) p q = f a p q
+if_both P Q R f (Err e) p q = p

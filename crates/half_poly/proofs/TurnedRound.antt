@@ -50,8 +50,8 @@ next_once F L neat s e d h k q =
     let end : L.origin (L.twin d) ≡ L.origin (L.twin e) = sym (s.meets d k) ∙ ap L.origin (sym q) ∙ s.meets e h in
     let i = s.edge e h in
     let j : IsHalfEdge F (own_plane L e) (other_plane L d) (from_point L d) (to_point L e) =
-        subst (λ x. IsHalfEdge F (own_plane L e) (other_plane L d) (from_point L d) (L.point x)) end
-        (subst (λ x. IsHalfEdge F (L.plane x) (other_plane L d) (from_point L d) (to_point L d)) face (s.edge d k)) in
+    subst (λ x. IsHalfEdge F (own_plane L e) (other_plane L d) (from_point L d) (L.point x)) end
+    (subst (λ x. IsHalfEdge F (L.plane x) (other_plane L d) (from_point L d) (to_point L d)) face (s.edge d k)) in
     s.one_each e d h k (sym (s.vertex_once (L.origin d) (L.origin e) (s.origin_live d k) (s.origin_live e h)
     (one_incoming F (own_plane L e) (other_plane L e) (other_plane L d) (from_point L e) (from_point L d) (to_point L e) (neat.proper (own_plane L e) i.f_in) i j))) (sym face)
 
@@ -59,7 +59,7 @@ last_in : {next : ℕ → ℕ} {x y : ℕ} {V : List ℕ} → Way next x y V →
 last_in start = here
 last_in (onward w n) = here
 
-module _ {V : ℕ → Option Homogeneous} {E : ℕ → Option HalfEdge} {Fc : ℕ → Option Face} (F : List HalfSpace) (neat : Neat F) (s : StandsFor F (links V E Fc)) (table : Table) (within : (e : ℕ) → IsSome (E e) → e < length table) (t : AreBefore E table) where
+module _ (V : ℕ → Option Homogeneous) (E : ℕ → Option HalfEdge) (Fc : ℕ → Option Face) (F : List HalfSpace) (neat : Neat F) (s : StandsFor F (links V E Fc)) (table : Table) (within : (e : ℕ) → IsSome (E e) → e < length table) (t : AreBefore E table) where
   abbrev L : Links
   L = links V E Fc
 
@@ -76,7 +76,7 @@ module _ {V : ℕ → Option Homogeneous} {E : ℕ → Option HalfEdge} {Fc : �
   leads : (e : ℕ) (h : HasEdge L e) → LeadsTo E (noted e h).it e
   leads e h = t.leads e (noted e h).it (noted e h).is
 
-  pub before_is : (e : ℕ) (h : HasEdge L e) → before e ≡ (noted e h).it.0
+  before_is : (e : ℕ) (h : HasEdge L e) → before e ≡ (noted e h).it.0
   unfolding before
   before_is e h = read (λ (id : EdgeId). id.0) 0 (noted e h).is
 

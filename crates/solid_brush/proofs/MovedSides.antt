@@ -54,10 +54,10 @@ range_of r (x ∷ sides) n t here = n x here
 range_of r (x ∷ sides) n t (there m) = range_of r sides (λ y i. n y (there i)) t m
 
 -- ---- a solid and its polyhedron
-module _ (r : Motion) (signed : IsTrue (is_signed_permutation r.matrix)) {sides : List Side} {poly : List Tagged} (k : IsKeptSolid sides poly) (now : List Side) (view : sides ≡ now) where
-  pub range : Every (λ s. first_out_of_range (moved_plane r s.plane) ≡ None) now → Every (λ s. first_out_of_range (moved_plane r s.plane) ≡ None) poly
-  range h = subst (Every (λ s. first_out_of_range (moved_plane r s.plane) ≡ None)) (sym k.same) (range_of r sides (subst (Every (λ s. first_out_of_range (moved_plane r s.plane) ≡ None)) (sym view) h))
+pub range : (r : Motion) {sides : List Side} {poly : List Tagged} → IsKeptSolid sides poly → (now : List Side) → sides ≡ now → Every (λ s. first_out_of_range (moved_plane r s.plane) ≡ None) now → Every (λ s. first_out_of_range (moved_plane r s.plane) ≡ None) poly
+range r {sides} {poly} k now view h = subst (Every (λ s. first_out_of_range (moved_plane r s.plane) ≡ None)) (sym k.same) (range_of r sides (subst (Every (λ s. first_out_of_range (moved_plane r s.plane) ≡ None)) (sym view) h))
 
+module _ (r : Motion) (signed : IsTrue (is_signed_permutation r.matrix)) {sides : List Side} {poly : List Tagged} (k : IsKeptSolid sides poly) (now : List Side) (view : sides ≡ now) where
   poly_moved : map (moved_tagged r) poly ≡ map tagged (map (moved_side r) sides)
   poly_moved = ap (map (moved_tagged r)) k.same ∙ tagged_moved r sides
 
