@@ -56,5 +56,7 @@ pub mod InwardWalls
 pub mod Hollowing
 pub mod FacetFaces
 pub mod Hulling
+pub mod RoundedPoints
+pub mod ChangedFaces
 pub mod ReshapingRows
 pub mod ReshapingCommands

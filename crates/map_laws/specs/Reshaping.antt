@@ -4,9 +4,9 @@ use Rattle.std.specs.Prelude.{◌≡◌, Bool, true, false, IsTrue, List, [], �
 use Rattle.map_model.specs.Tree.{Whole}
 use Rattle.map_model.specs.Shape.{Shape}
 use Rattle.map_model.specs.Below.{Below, IsRight}
-use Rattle.map_model.specs.Commands.{Command, IsGood, Settings, Tex, Clip, Subtract, Intersect, Hollow, Hull}
+use Rattle.map_model.specs.Commands.{Command, IsGood, Settings, Tex, Clip, Subtract, Intersect, Hollow, Hull, Vertex, Snap}
 use Rattle.map_model.specs.Replies.{Refusal}
-use Rattle.map_model.specs.Rows.{rows, first, no_node, repeated, wrong_kind, locked_layer, flat_plane, plane_misses, apart, not_box, thick, too_many_points, no_volume, too_many_faces, out_of_world}
+use Rattle.map_model.specs.Rows.{rows, first, no_node, repeated, wrong_kind, locked_layer, flat_plane, plane_misses, apart, not_box, thick, no_vertex, fractional_vertex, too_many_points, point_range, no_volume, too_many_faces, out_of_world}
 use Rattle.map_model.specs.Apply.{Applied, apply}
 use Rattle.map_laws.specs.Unlinked.{Unlinked, apply_unlinked}
 use Rattle.map_laws.specs.BoxCommand.{KeepsMaterial}
@@ -18,6 +18,8 @@ is_reshaping_command (Subtract by ns) = true
 is_reshaping_command (Intersect ns) = true
 is_reshaping_command (Hollow thickness ns) = true
 is_reshaping_command (Hull points) = true
+is_reshaping_command (Vertex n shift picks) = true
+is_reshaping_command (Snap grid ns) = true
 is_reshaping_command c = false
 
 -- The rows that can refuse such a command.
@@ -40,6 +42,12 @@ reshaping_rows b s m (Hollow thickness ns) =
 reshaping_rows b s m (Hull points) =
     let c = Hull points in
     too_many_points b m c ∷ no_volume b m c ∷ too_many_faces b s m c ∷ out_of_world b s m c ∷ []
+reshaping_rows b s m (Vertex n shift picks) =
+    let c = Vertex n shift picks in
+    no_node m c ∷ wrong_kind m c ∷ locked_layer m c ∷ no_vertex b m c ∷ fractional_vertex b m c ∷ point_range s m c ∷ no_volume b m c ∷ too_many_faces b s m c ∷ out_of_world b s m c ∷ []
+reshaping_rows b s m (Snap grid ns) =
+    let c = Snap grid ns in
+    no_node m c ∷ repeated c ∷ wrong_kind m c ∷ locked_layer m c ∷ no_volume b m c ∷ too_many_faces b s m c ∷ []
 reshaping_rows b s m c = []
 
 -- The offsets and the scales of a texture are two each.
