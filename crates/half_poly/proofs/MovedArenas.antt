@@ -1,5 +1,5 @@
 -- Arenas that a motion moves.
-use Rattle.std.proofs.Common.{◌≡◌, ℕ, ◌<◌, Bool, true, false, IsTrue, List, [], ◌∷◌, length, get_or, map, slice_get, Option, Some, None, IsSome, is_some, refl, sym, ap, subst, ◌∙◌, arith, inl, inr, ◌⊎◌, ℤ, pos, negsuc, ◌+ℤ◌, ◌*ℤ◌, ◌<ℤ◌}
+use Rattle.std.proofs.Common.{◌≡◌, ℕ, ◌<◌, Bool, true, false, IsTrue, List, [], ◌∷◌, get_or, map, slice_get, Option, Some, None, IsSome, is_some, refl, sym, ap, subst, ◌∙◌, arith, inl, inr, ◌⊎◌, ℤ, pos, negsuc, ◌+ℤ◌, ◌*ℤ◌, ◌<ℤ◌}
 use Rattle.std.specs.Option.{option_map, option_map_or, option_and_then}
 use Rattle.std.proofs.lemmas.Int.{ints}
 use Rattle.std.proofs.lemmas.Option.{slice_get-get_or}
@@ -11,11 +11,9 @@ use Rattle.algebra.proofs.Ring.{ring}
 use Rattle.algebra.proofs.Members.{member_at}
 use Rattle.algebra.proofs.Points.{same-in, same_point_sym}
 use Rattle.exact_geom.specs.Planes.{ThreePoints, half_space}
-use Rattle.exact_geom.specs.Vertices.{IsReduced}
-use Rattle.half_arena.specs.declared.ids.EdgeId.{EdgeId}
 use Rattle.half_arena.specs.declared.ids.FaceId.{FaceId}
 use Rattle.half_arena.specs.declared.ids.VertId.{VertId}
-use Rattle.orient48.specs.Motions.{Matrix, Motion, is_signed_permutation, is_flip, turned as turned_vector, moved_plane, moved_half, moved_at}
+use Rattle.orient48.specs.Motions.{Motion, is_signed_permutation, is_flip, turned as turned_vector, moved_plane, moved_half, moved_at}
 use Rattle.orient48.specs.Laws.{IsTurn}
 use Rattle.orient48.proofs.Matrices.{is_turn}
 use Rattle.orient48.proofs.Planes.{half_moved}
@@ -23,7 +21,7 @@ use Rattle.orient48.proofs.Signs.{sign_of}
 use Rattle.vertex_laws.specs.Vertex.{IsVertex}
 use Rattle.vertex_laws.specs.Cube.{VertexOutside}
 use Rattle.vertex_laws.proofs.Cube.{in_walls, of_walls}
-use Rattle.poly_laws.specs.Links.{Links, HasVertex, HasEdge}
+use Rattle.poly_laws.specs.Links.{Links, HasEdge}
 use Rattle.poly_laws.specs.Stands.{StandsFor}
 use Rattle.moved_laws.specs.Moved.{moved_list}
 use Rattle.moved_laws.proofs.Halves.{side_plane}
@@ -39,11 +37,10 @@ use Rattle.half_poly.specs.declared.links.Face.{Face}
 use Rattle.half_poly.specs.declared.names.Name.{Name}
 use Rattle.half_poly.specs.Arenas.{links, nowhere, no_plane, zero_vector}
 use Rattle.half_poly.specs.Names.{no_name}
-use Rattle.half_poly.specs.Noted.{Table, entry}
-use Rattle.half_poly.specs.Shapes.{Tagged, bounds, solid_of, side_at, sides_of, IsShape}
-use Rattle.half_poly.specs.Moving.{moved_face, moved_side, triple_of, AreSlotNames, plane_at, IsCornerOf, CanMove, IsMovedSlot, SomeLeaves, LiesInWorld}
+use Rattle.half_poly.specs.Shapes.{Tagged, solid_of, side_at, sides_of, IsShape}
+use Rattle.half_poly.specs.Moving.{moved_face, moved_side, triple_of, AreSlotNames, plane_at, CanMove, IsMovedSlot, SomeLeaves, LiesInWorld}
 use Rattle.half_poly.specs.Turned.{turned, AreTurned, AreMovedEdges}
-use Rattle.half_poly.proofs.ArenaReads.{There, there, read, live_is}
+use Rattle.half_poly.proofs.ArenaReads.{there, read, live_is}
 use Rattle.half_poly.proofs.Naming.{face_live, face_plane, id_at, no_face}
 use Rattle.half_poly.proofs.Shaping.{side_is}
 use Rattle.half_poly.proofs.TurnedRound.{stands_like, before, leads_back, next_noted}

@@ -9,14 +9,13 @@ use Rattle.half_arena.specs.Slots.{Slots, contents, slot_at}
 use Rattle.half_arena.specs.declared.ids.FaceId.{FaceId}
 use Rattle.half_arena.specs.declared.ids.VertId.{VertId}
 use Rattle.orient48.specs.Motions.{Motion, is_signed_permutation, is_flip, moved_plane}
-use Rattle.half_poly.specs.declared.links.HalfEdge.{HalfEdge}
 use Rattle.half_poly.specs.declared.links.Face.{Face}
 use Rattle.half_poly.specs.declared.names.Name.{Name}
 use Rattle.half_poly.specs.declared.shape.Shape.{Shape}
 use Rattle.half_poly.specs.Readings.{IsPoly}
 use Rattle.half_poly.specs.Shapes.{Tagged, solid_of, side_at, sides_of, IsShape, DistinctTags, no_sides, one_more_side}
 use Rattle.half_poly.specs.Moving.{moved_face, moved_side, AreSlotNames, CanMove, SaysMoved, SomeLeaves, LiesInWorld, IsMovedShape, IsMovedTo}
-use Rattle.half_poly.specs.Turned.{AreTurned, AreMovedEdges}
+use Rattle.half_poly.specs.Turned.{AreMovedEdges}
 use Rattle.half_poly.proofs.Listed.{image}
 use Rattle.half_poly.proofs.Making.{is_some_of}
 use Rattle.half_poly.proofs.MovedArenas.{can_move, shape, sides, lies, outside}

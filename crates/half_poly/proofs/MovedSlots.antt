@@ -12,7 +12,6 @@ use Rattle.half_poly.specs.declared.names.Name.{Name}
 use Rattle.half_poly.specs.Names.{no_name}
 use Rattle.half_poly.specs.Moving.{IsCornerOf, CanMove, IsMovedSlot, MovedBelow, SomeLeaves}
 use Rattle.half_poly.proofs.ChangedSlot.{holds}
-use Rattle.half_poly.proofs.Making.{is_some_of}
 
 some_is : {A : Type 0} {x y : A} → Some x ≡ Some y → x ≡ y
 some_is {A} {x} {y} q = cc

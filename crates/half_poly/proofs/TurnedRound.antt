@@ -1,5 +1,5 @@
 -- Half-edges that are turned round.
-use Rattle.std.proofs.Common.{◌≡◌, ℕ, zero, suc, ◌<◌, ◌≤◌, List, [], ◌∷◌, length, Option, Some, IsSome, is_some, unwrap_or, true, sym, ap, subst, ◌∙◌, pos}
+use Rattle.std.proofs.Common.{◌≡◌, ℕ, ◌<◌, List, length, Option, IsSome, is_some, unwrap_or, true, sym, ap, subst, ◌∙◌}
 use Rattle.std.specs.Option.{option_map_or}
 use Rattle.algebra.specs.Members.{◌∈◌, here}
 use Rattle.algebra.specs.Space.{Homogeneous, HalfSpace}

@@ -1,13 +1,12 @@
 //! Moving the faces and vertices of a polyhedron.
 
-ghost use Rattle.std.specs.Prelude.{◌≡◌, ◌≢◌, ℕ, get_or, None, Some};
+ghost use Rattle.std.specs.Prelude.{◌≡◌, ◌≢◌, ℕ, None, Some};
 ghost use Rattle.std.specs.Option.{option_map};
 ghost use Rattle.algebra.specs.Space.{Homogeneous};
 ghost use Rattle.exact_geom.specs.Planes.{first_out_of_range};
 ghost use Rattle.half_arena.specs.Slots.{contents};
 ghost use Rattle.orient48.specs.Motions.{Motion as Moving, moved_plane};
 ghost use Rattle.half_poly.specs.declared.links.Face.{Face};
-ghost use Rattle.half_poly.specs.Names.{no_name};
 ghost use Rattle.half_poly.specs.Passes.{Passed};
 ghost use Rattle.half_poly.specs.Moving.{moved_face, IsCornerOf, CanMove, IsMovedSlot, SaysMoved};
 

@@ -1,6 +1,6 @@
 //! Turning the half-edges of a polyhedron round.
 
-ghost use Rattle.std.specs.Prelude.{◌≡◌, ◌≢◌, ◌+◌, ◌<◌, ℕ, length, Some, IfOk, IsSome};
+ghost use Rattle.std.specs.Prelude.{◌≡◌, ◌≢◌, ◌+◌, ◌<◌, ℕ, length, IfOk, IsSome};
 ghost use Rattle.std.specs.Option.{option_map};
 ghost use Rattle.half_arena.specs.Slots.{contents};
 ghost use Rattle.half_poly.specs.Passes.{Passed};

@@ -1,7 +1,6 @@
 -- The sides of a brush that a motion moves.
-use Rattle.std.proofs.Common.{◌≡◌, ◌+◌, ◌^◌, ◌<◌, IsTrue, List, [], ◌∷◌, map, Option, Some, None, refl, sym, ap, subst, ◌∙◌}
-use Rattle.algebra.specs.Members.{◌∈◌, here, there, Every}
-use Rattle.algebra.specs.Space.{HalfSpace}
+use Rattle.std.proofs.Common.{◌≡◌, ◌^◌, ◌<◌, IsTrue, List, [], ◌∷◌, map, Option, Some, None, refl, sym, ap, subst, ◌∙◌}
+use Rattle.algebra.specs.Members.{here, there, Every}
 use Rattle.exact_geom.specs.Planes.{first_out_of_range}
 use Rattle.orient48.specs.Motions.{Motion, is_signed_permutation, moved_plane}
 use Rattle.orient48.proofs.Matrices.{is_turn}
@@ -14,7 +13,7 @@ use Rattle.trim_laws.specs.Valid.{Valid, OutOfWorld}
 use Rattle.half_poly.specs.Shapes.{Tagged, solid_of}
 use Rattle.half_poly.specs.Moving.{moved_side as moved_tagged, LiesInWorld, IsMovedTo}
 use Rattle.solid_brush.specs.declared.side.Side.{Side}
-use Rattle.solid_brush.specs.Sides.{bounds, half_spaces, HaveTags, DistinctTags, no_sides, one_more_side, IsSolid}
+use Rattle.solid_brush.specs.Sides.{half_spaces, DistinctTags, no_sides, one_more_side, IsSolid}
 use Rattle.solid_brush.specs.Cutting.{tagged, untagged, IsKeptSolid}
 use Rattle.solid_brush.specs.Moved.{moved_side, IsMovedOf}
 use Rattle.solid_brush.proofs.Behind.{spaces_of}
