@@ -58,5 +58,7 @@ pub mod FacetFaces
 pub mod Hulling
 pub mod RoundedPoints
 pub mod ChangedFaces
+pub mod VerticesSpan
+pub mod Merging
 pub mod ReshapingRows
 pub mod ReshapingCommands

@@ -4,7 +4,7 @@ use Rattle.algebra.specs.Members.{here}
 use Rattle.map_model.specs.Tree.{Whole, at, format_of, with_faces, faces_at}
 use Rattle.map_model.specs.Shape.{Shape}
 use Rattle.map_model.specs.Below.{Below, IsRight}
-use Rattle.map_model.specs.Commands.{Command, IsGood, Settings, Tex, Clip, Subtract, Intersect, Hollow, Hull, Vertex, Snap}
+use Rattle.map_model.specs.Commands.{Command, IsGood, Settings, Tex, Clip, Subtract, Intersect, Hollow, Hull, Merge, Vertex, Snap}
 use Rattle.map_model.specs.Rows.{rows, first, edits}
 use Rattle.map_model.specs.Own.{own, change_at, retextured}
 use Rattle.map_laws.specs.Unlinked.{Unlinked}
@@ -19,6 +19,7 @@ use Rattle.map_laws.proofs.Intersecting.{intersects}
 use Rattle.map_laws.proofs.Hollowing.{hollows}
 use Rattle.map_laws.proofs.Hulling.{hulls}
 use Rattle.map_laws.proofs.ChangedFaces.{moves_vertices, snaps}
+use Rattle.map_laws.proofs.Merging.{merges}
 use Rattle.map_laws.proofs.Unlinking.{Outcome, EndsPlainly, apply_is, accepted_shape}
 
 outcome : (b : Below) (s : Settings) (m : Whole) (c : Command) → IsRight b → KeepsMaterial s → is_reshaping_command c ≡ true → IsGood c → HasPairs c → Shape m → Unlinked m → first (rows b s m c) ≡ None → Outcome m c (own b s m c)
@@ -34,6 +35,7 @@ outcome b s m (Subtract by ns) right material is good two shape u e = subtracts 
 outcome b s m (Intersect ns) right material is good two shape u e = intersects b s m ns right good shape u e
 outcome b s m (Hollow thickness ns) right material is good two shape u e = hollows b s m thickness ns right good shape u e
 outcome b s m (Hull points) right material is good two shape u e = hulls b s m points material shape u e
+outcome b s m (Merge ns) right material is good two shape u e = merges b s m ns right material good shape u e
 outcome b s m (Vertex n shift picks) right material is good two shape u e = moves_vertices b s m n shift picks shape u e
 outcome b s m (Snap grid ns) right material is good two shape u e = snaps b s m grid ns right good shape u e
 outcome b s m c right material is good two shape u e = absurd (cc)
@@ -45,6 +47,7 @@ ends b s m (Subtract by ns) is = record { accepted = refl; editing = flat_map (e
 ends b s m (Intersect ns) is = record { accepted = refl; editing = flat_map (edits m (Intersect ns)) ns; edits = λ k. refl }
 ends b s m (Hollow thickness ns) is = record { accepted = refl; editing = flat_map (edits m (Hollow thickness ns)) ns; edits = λ k. refl }
 ends b s m (Hull points) is = record { accepted = refl; editing = []; edits = λ k. refl }
+ends b s m (Merge ns) is = record { accepted = refl; editing = flat_map (edits m (Merge ns)) ns; edits = λ k. refl }
 ends b s m (Vertex n shift picks) is = record { accepted = refl; editing = flat_map (edits m (Vertex n shift picks)) (n ∷ []); edits = λ k. refl }
 ends b s m (Snap grid ns) is = record { accepted = refl; editing = flat_map (edits m (Snap grid ns)) ns; edits = λ k. refl }
 ends b s m c is = absurd (cc)

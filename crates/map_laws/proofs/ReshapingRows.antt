@@ -3,7 +3,7 @@ use Rattle.std.proofs.Common.{◌≡◌, ℕ, List, [], ◌∷◌, refl, ap, ◌
 use Rattle.std.specs.Prelude.{nat_lt, count_by, ◌==◌, option_to_list}
 use Rattle.map_model.specs.Tree.{Whole, over}
 use Rattle.map_model.specs.Below.{Below}
-use Rattle.map_model.specs.Commands.{Command, Settings, Tex, Clip, Subtract, Intersect, Hollow, Hull, Vertex, Snap}
+use Rattle.map_model.specs.Commands.{Command, Settings, Tex, Clip, Subtract, Intersect, Hollow, Hull, Merge, Vertex, Snap}
 use Rattle.map_model.specs.Replies.{Refusal, Repeated}
 use Rattle.map_model.specs.Rows.{first, refuse, at_each, named, rows, edits, no_node, repeated, wrong_kind, nested_ids, locked_layer, two_members, reserved_key, no_key, not_linked, nested_link, rotation, flat_plane, plane_misses, apart, not_box, thick, no_vertex, fractional_vertex, too_many_points, point_range, no_volume, too_many_faces, out_of_world, lock_offset, stuck_origin, shift_range}
 use Rattle.map_laws.specs.Unlinked.{Unlinked}
@@ -53,6 +53,10 @@ reshaping_rows_are b s m (Hull points) is u =
     let c = Hull points in
     both (too_many_points b m c) _ (no_volume b m c ∷ too_many_faces b s m c ∷ out_of_world b s m c ∷ []) (both (no_volume b m c) _ (too_many_faces b s m c ∷ out_of_world b s m c ∷ [])
     (both (too_many_faces b s m c) _ (out_of_world b s m c ∷ []) (both (out_of_world b s m c) _ [] refl)))
+reshaping_rows_are b s m (Merge ns) is u =
+    let c = Merge ns in
+    brush_rows b s m c u (fractional_vertex b m c ∷ too_many_points b m c ∷ too_many_faces b s m c ∷ []) refl (λ n. refl)
+    (both (fractional_vertex b m c) _ (too_many_points b m c ∷ too_many_faces b s m c ∷ []) (both (too_many_points b m c) _ (too_many_faces b s m c ∷ []) (both (too_many_faces b s m c) _ [] refl)))
 reshaping_rows_are b s m (Vertex n shift picks) is u =
     let c = Vertex n shift picks in
     let geometry = no_vertex b m c ∷ fractional_vertex b m c ∷ point_range s m c ∷ no_volume b m c ∷ too_many_faces b s m c ∷ out_of_world b s m c ∷ [] in

@@ -60,7 +60,7 @@ grid_in grid w x g positive h = elim g [
     by : (n k : ℕ) → n * k ≡ 4096 → 0 < n → grid ≡ pos n → unsigned_abs (rounded_coordinate grid w x) ≤ 4096
     by n k whole least e = subst (λ t. unsigned_abs (rounded_coordinate t w x) ≤ 4096) (sym e) (rounded_in n k whole least w x positive h)
 
-size_of : (w x : ℤ) → pos 0 <ℤ w → neg_ℤ (world *ℤ w) ≤ℤ x → x ≤ℤ (world *ℤ w) → unsigned_abs x ≤ 4096 * unsigned_abs w
+pub size_of : (w x : ℤ) → pos 0 <ℤ w → neg_ℤ (world *ℤ w) ≤ℤ x → x ≤ℤ (world *ℤ w) → unsigned_abs x ≤ 4096 * unsigned_abs w
 size_of w x positive l h = omega (arith, ints)
 
 pub rounded_world : (grid : ℤ) (v : Homogeneous) → IsGrid grid → pos 0 <ℤ v.weight → InCube world v → InWorld (rounded grid v)

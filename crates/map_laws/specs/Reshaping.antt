@@ -4,7 +4,7 @@ use Rattle.std.specs.Prelude.{◌≡◌, Bool, true, false, IsTrue, List, [], �
 use Rattle.map_model.specs.Tree.{Whole}
 use Rattle.map_model.specs.Shape.{Shape}
 use Rattle.map_model.specs.Below.{Below, IsRight}
-use Rattle.map_model.specs.Commands.{Command, IsGood, Settings, Tex, Clip, Subtract, Intersect, Hollow, Hull, Vertex, Snap}
+use Rattle.map_model.specs.Commands.{Command, IsGood, Settings, Tex, Clip, Subtract, Intersect, Hollow, Hull, Merge, Vertex, Snap}
 use Rattle.map_model.specs.Replies.{Refusal}
 use Rattle.map_model.specs.Rows.{rows, first, no_node, repeated, wrong_kind, locked_layer, flat_plane, plane_misses, apart, not_box, thick, no_vertex, fractional_vertex, too_many_points, point_range, no_volume, too_many_faces, out_of_world}
 use Rattle.map_model.specs.Apply.{Applied, apply}
@@ -18,6 +18,7 @@ is_reshaping_command (Subtract by ns) = true
 is_reshaping_command (Intersect ns) = true
 is_reshaping_command (Hollow thickness ns) = true
 is_reshaping_command (Hull points) = true
+is_reshaping_command (Merge ns) = true
 is_reshaping_command (Vertex n shift picks) = true
 is_reshaping_command (Snap grid ns) = true
 is_reshaping_command c = false
@@ -42,6 +43,9 @@ reshaping_rows b s m (Hollow thickness ns) =
 reshaping_rows b s m (Hull points) =
     let c = Hull points in
     too_many_points b m c ∷ no_volume b m c ∷ too_many_faces b s m c ∷ out_of_world b s m c ∷ []
+reshaping_rows b s m (Merge ns) =
+    let c = Merge ns in
+    no_node m c ∷ repeated c ∷ wrong_kind m c ∷ locked_layer m c ∷ fractional_vertex b m c ∷ too_many_points b m c ∷ too_many_faces b s m c ∷ []
 reshaping_rows b s m (Vertex n shift picks) =
     let c = Vertex n shift picks in
     no_node m c ∷ wrong_kind m c ∷ locked_layer m c ∷ no_vertex b m c ∷ fractional_vertex b m c ∷ point_range s m c ∷ no_volume b m c ∷ too_many_faces b s m c ∷ out_of_world b s m c ∷ []
