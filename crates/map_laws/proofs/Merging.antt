@@ -139,6 +139,11 @@ spot b m n ns x i =
       is = v.2;
     }
 
+wide_at : (points : List Point) {vs : List Vector} (s : Spans vs) → Spot points s.a → Spot points s.b → Spot points s.c → Spot points s.d → spans_space points ≡ true
+wide_at points s a b c d =
+    wide_by points a.at b.at c.at d.at a.among b.among c.among d.among
+    (subst (λ z. pos 0 <ℤ z) (λ i. det (minus (b.is i) (a.is i)) (minus (c.is i) (a.is i)) (minus (d.is i) (a.is i))) s.volume)
+
 pub merges : (b : Below) (s : Settings) (m : Whole) (ns : List ℕ) → IsRight b → KeepsMaterial s → IsGood (Merge ns) → Shape m → Unlinked m → first (rows b s m (Merge ns)) ≡ None → Outcome m (Merge ns) (own b s m (Merge ns))
 merges b s m [] right material good shape u e = absurd (omega (arith, good.counts))
 merges b s m (n ∷ ns) right material good shape u e =
@@ -160,12 +165,7 @@ merges b s m (n ∷ ns) right material good shape u e =
     subst InWorld (sym v.2) (vertex_world v.0 (whole q.0 q.1 v.0 v.1) ((faces q.0 q.1).valid.within v.0 ((are q.0 q.1).each v.0 v.1).0.inside)) in
     let first_valid = (faces n here).valid in
     let spans = vertices_span (half_spaces (faces_at m n)) (vs n) first_valid.volume.at (brush_encloses f (faces_at m n) (faces n here)).bounded (are n here) first_valid.volume.inside (whole n here) in
-    let p = spot b m n ns spans.a spans.a_in in
-    let q = spot b m n ns spans.b spans.b_in in
-    let t = spot b m n ns spans.c spans.c_in in
-    let w = spot b m n ns spans.d spans.d_in in
-    let wide = wide_by (hull_points b m c) p.at q.at t.at w.at p.among q.among t.among w.among
-    (subst (λ z. pos 0 <ℤ z) (λ i. det (minus (q.is i) (p.is i)) (minus (t.is i) (p.is i)) (minus (w.is i) (p.is i))) spans.volume) in
+    let wide = wide_at (hull_points b m c) spans (spot b m n ns spans.a spans.a_in) (spot b m n ns spans.b spans.b_in) (spot b m n ns spans.c spans.c_in) (spot b m n ns spans.d spans.d_in) in
     let each = λ (g : Face) (i : g ∈ all_faces m (n ∷ ns)). let x = in_flat (faces_at m) (n ∷ ns) g i in (faces x.0 x.1).each g x.2 in
     keeps_first m c (merged b s m (n ∷ ns)) n ns shape u refl (λ x. by_member x (n ∷ ns) (λ i. fit.once x i) (λ none. omega (arith, tally-no_member x (n ∷ ns) none))) brushes
     (facets_ok f (fields_for s m (all_faces m (n ∷ ns))) (given_fields s m (all_faces m (n ∷ ns)) material each) (hull_points b m c) near wide (few n (merged b s m (n ∷ ns)) r.few_faces))

@@ -1,5 +1,5 @@
--- The commands that remake brushes or their faces, in maps in which no group is linked. The tests on solids are right, and the material of
--- new faces can be saved.
+-- The commands that make brushes of brushes or of points, or change faces, in maps in which no group is linked. The tests on solids are
+-- right, and the material of new faces can be saved.
 use Rattle.std.specs.Prelude.{◌≡◌, Bool, true, false, IsTrue, List, [], ◌∷◌, length, Option, Ok}
 use Rattle.map_model.specs.Tree.{Whole}
 use Rattle.map_model.specs.Shape.{Shape}
@@ -23,6 +23,10 @@ is_reshaping_command (Vertex n shift picks) = true
 is_reshaping_command (Snap grid ns) = true
 is_reshaping_command c = false
 
+-- The rows on the brushes that a command names, with those that follow.
+abbrev pub on_brushes : Whole → Command → List (Option Refusal) → List (Option Refusal)
+on_brushes m c rest = no_node m c ∷ repeated c ∷ wrong_kind m c ∷ locked_layer m c ∷ rest
+
 -- The rows that can refuse such a command.
 abbrev pub reshaping_rows : Below → Settings → Whole → Command → List (Option Refusal)
 reshaping_rows b s m (Tex n face name off rotation scale surface) =
@@ -30,28 +34,28 @@ reshaping_rows b s m (Tex n face name off rotation scale surface) =
     no_node m c ∷ wrong_kind m c ∷ locked_layer m c ∷ []
 reshaping_rows b s m (Clip part plane ns) =
     let c = Clip part plane ns in
-    no_node m c ∷ repeated c ∷ wrong_kind m c ∷ locked_layer m c ∷ flat_plane c ∷ plane_misses b s m c ∷ too_many_faces b s m c ∷ []
+    on_brushes m c (flat_plane c ∷ plane_misses b s m c ∷ too_many_faces b s m c ∷ [])
 reshaping_rows b s m (Subtract by ns) =
     let c = Subtract by ns in
-    no_node m c ∷ repeated c ∷ wrong_kind m c ∷ locked_layer m c ∷ apart b m c ∷ too_many_faces b s m c ∷ []
+    on_brushes m c (apart b m c ∷ too_many_faces b s m c ∷ [])
 reshaping_rows b s m (Intersect ns) =
     let c = Intersect ns in
-    no_node m c ∷ repeated c ∷ wrong_kind m c ∷ locked_layer m c ∷ apart b m c ∷ too_many_faces b s m c ∷ []
+    on_brushes m c (apart b m c ∷ too_many_faces b s m c ∷ [])
 reshaping_rows b s m (Hollow thickness ns) =
     let c = Hollow thickness ns in
-    no_node m c ∷ repeated c ∷ wrong_kind m c ∷ locked_layer m c ∷ not_box m c ∷ thick b m c ∷ []
+    on_brushes m c (not_box m c ∷ thick b m c ∷ [])
 reshaping_rows b s m (Hull points) =
     let c = Hull points in
     too_many_points b m c ∷ no_volume b m c ∷ too_many_faces b s m c ∷ out_of_world b s m c ∷ []
 reshaping_rows b s m (Merge ns) =
     let c = Merge ns in
-    no_node m c ∷ repeated c ∷ wrong_kind m c ∷ locked_layer m c ∷ fractional_vertex b m c ∷ too_many_points b m c ∷ too_many_faces b s m c ∷ []
+    on_brushes m c (fractional_vertex b m c ∷ too_many_points b m c ∷ too_many_faces b s m c ∷ [])
 reshaping_rows b s m (Vertex n shift picks) =
     let c = Vertex n shift picks in
     no_node m c ∷ wrong_kind m c ∷ locked_layer m c ∷ no_vertex b m c ∷ fractional_vertex b m c ∷ point_range s m c ∷ no_volume b m c ∷ too_many_faces b s m c ∷ out_of_world b s m c ∷ []
 reshaping_rows b s m (Snap grid ns) =
     let c = Snap grid ns in
-    no_node m c ∷ repeated c ∷ wrong_kind m c ∷ locked_layer m c ∷ no_volume b m c ∷ too_many_faces b s m c ∷ []
+    on_brushes m c (no_volume b m c ∷ too_many_faces b s m c ∷ [])
 reshaping_rows b s m c = []
 
 -- The offsets and the scales of a texture are two each.

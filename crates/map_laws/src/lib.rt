@@ -1,8 +1,8 @@
 //! Laws of whole maps: what the edits keep, and that a map after a command has the shape of maps again, where no group is linked.
 //!
 //! A crate whose code makes the change of a command cites them: it shows that its change leads to the map of the definitions, and a law here
-//! says what that map keeps. They cover the commands that change the tree, that move or copy nodes, and that make a box; for those that
-//! change geometry the tests on solids are to be right. There is no code that runs: the functions are empty, and each states a law as its
+//! says what that map keeps. They cover the commands that change the tree, that move or copy nodes, and that make or remake brushes; for
+//! those that change geometry the tests on solids are to be right. There is no code that runs: the functions are empty, and each states a law as its
 //! `ensures`, which is proved in `proofs/`.
 #![tactic(auto)]
 
@@ -108,7 +108,7 @@ pub fn box_command_law()
     ensures { BoxCommandLaw }
 {}
 
-/// Where no group is linked, a few rows can refuse a command that remakes brushes.
+/// Where no group is linked, a few rows can refuse a command that remakes brushes or their faces.
 pub fn reshaping_rows_law()
     ensures { ReshapingRowsLaw }
 {}
