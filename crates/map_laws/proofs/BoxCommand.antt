@@ -1,23 +1,15 @@
 -- The command that makes a box, where no group is linked.
 use Rattle.std.proofs.Common.{inl, inr, ◌≡◌, List, [], ◌∷◌, length, map, Bool, true, false, not, cond, ◌&&◌, refl, ap, sym, ◌∙◌, subst, arith, None, ℤ, ◌==◌}
-use Rattle.std.specs.Prelude.{codes, is_none, int_lt, unwrap_or}
-use Rattle.std.specs.List.{list_all}
+use Rattle.std.specs.Prelude.{codes, is_none, int_lt}
 use Rattle.std.proofs.lemmas.Bool.{and_parts}
-use Rattle.algebra.specs.Members.{◌∈◌, here, there, Every}
-use Rattle.algebra.specs.Space.{Vector, dot}
+use Rattle.algebra.specs.Members.{◌∈◌, here, there}
+use Rattle.algebra.specs.Space.{Vector}
 use Rattle.exact_geom.specs.Planes.{ThreePoints, half_space, first_out_of_range, is_zero, is_flat}
-use Rattle.trim_laws.specs.Valid.{Valid}
 use Rattle.moved_laws.proofs.Points.{among_moved}
-use Rattle.uv_lock.specs.BaseAxes.{base_axes_of}
-use Rattle.uv_lock.specs.declared.texture.Format.{Format}
-use Rattle.uv_lock.specs.declared.texture.Format.TheVariants.{Standard, Valve}
 use Rattle.map_lex.specs.OneToken.{is_material_text}
-use Rattle.map_text.specs.Fits.{is_format}
 use Rattle.cmd_text.specs.Kept.{IsPoint}
-use Rattle.map_model.specs.Faces.{axis_unit, format_of_tex}
 use Rattle.map_model.specs.Tree.{Whole, Brush, format_of}
-use Rattle.map_model.specs.Shape.{Shape, FaceOk, FacesOk, half_spaces, are_below_million, is_tex_in_range}
-use Rattle.map_model.specs.Carry.{plain_tex, in_units}
+use Rattle.map_model.specs.Shape.{Shape, FacesOk}
 use Rattle.map_model.specs.Below.{Below, IsRight}
 use Rattle.map_model.specs.Brushes.{box_planes}
 use Rattle.map_model.specs.Commands.{IsGood, Settings, Box, vector_in, point_in}

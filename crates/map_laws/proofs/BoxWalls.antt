@@ -1,5 +1,5 @@
 -- Boxes along the axes: their vertices are whole, and each wall that is moved inward stays in range, where the box is thick enough.
-use Rattle.std.proofs.Common.{◌≡◌, ℕ, ◌≤◌, List, [], ◌∷◌, Bool, true, false, not, ◌&&◌, ◌||◌, inl, inr, ◌⊎◌, ⊎_elim, refl, ap, sym, ◌∙◌, subst, true≢false, arith, ℤ, pos, negsuc, neg_ℤ, ◌+ℤ◌, ◌-ℤ◌, ◌*ℤ◌, ◌<ℤ◌, ◌≤ℤ◌, unsigned_abs}
+use Rattle.std.proofs.Common.{◌≡◌, List, [], ◌∷◌, Bool, true, false, not, ◌&&◌, ◌||◌, ⊎_elim, refl, ap, sym, ◌∙◌, subst, true≢false, arith, ℤ, pos, ◌+ℤ◌, ◌-ℤ◌, ◌*ℤ◌, ◌<ℤ◌, unsigned_abs}
 use Rattle.std.specs.Int.{◌∣◌}
 use Rattle.std.specs.Ordering.{int_eq}
 use Rattle.std.proofs.Math.Nat.{dvd-mul_left}
@@ -7,12 +7,12 @@ use Rattle.std.proofs.lemmas.Nat.Gcd.{dvd_refl}
 use Rattle.std.proofs.lemmas.Int.{ints, unsigned_abs-mul}
 use Rattle.std.proofs.lemmas.Bool.Decides.{Decides-int_eq}
 use Rattle.algebra.specs.Members.{◌∈◌, here, there}
-use Rattle.algebra.specs.Space.{Vector, Homogeneous, HalfSpace, dot, cross, det, side, through, whole_point}
+use Rattle.algebra.specs.Space.{Vector, Homogeneous, HalfSpace, dot, cross, det, side, through}
 use Rattle.algebra.proofs.Expr.{read}
 use Rattle.algebra.proofs.Ring.{ring}
 use Rattle.algebra.proofs.Orders.{eq_by_3, by_sign, zero_product}
 use Rattle.algebra.proofs.Identities.{with_vector}
-use Rattle.exact_geom.specs.Planes.{ThreePoints, half_space, vector}
+use Rattle.exact_geom.specs.Planes.{half_space, vector}
 use Rattle.exact_geom.specs.Vertices.{IsReduced}
 use Rattle.vertex_laws.specs.Vertex.{IsVertex}
 use Rattle.map_model.specs.Faces.{Face}

@@ -1,5 +1,5 @@
 -- What the rows tell of the brushes that a command names.
-use Rattle.std.proofs.Common.{◌≡◌, ℕ, ◌≤◌, List, [], ◌∷◌, map, Bool, true, false, not, refl, ap, sym, subst, arith, Option, Some, None, option_map}
+use Rattle.std.proofs.Common.{◌≡◌, ℕ, ◌≤◌, List, [], ◌∷◌, map, Bool, true, false, not, refl, subst, Option, Some, None, option_map}
 use Rattle.std.specs.Prelude.{nat_lt, unwrap_or, length}
 use Rattle.std.proofs.lemmas.Bool.{ltb-false}
 use Rattle.algebra.specs.Members.{◌∈◌, here, there}
@@ -9,8 +9,8 @@ use Rattle.map_model.specs.Tree.{Whole, Node, World, Layer, Group, Entity, Brush
 use Rattle.map_model.specs.Shape.{Shape, FacesOk, NodeOk}
 use Rattle.map_model.specs.Below.{Below}
 use Rattle.map_model.specs.Commands.{Command, Settings}
-use Rattle.map_model.specs.Replies.{Refusal, TooManyFaces}
-use Rattle.map_model.specs.Rows.{rows, first, refuse, at_each, too_many, named, fits}
+use Rattle.map_model.specs.Replies.{TooManyFaces}
+use Rattle.map_model.specs.Rows.{rows, first, at_each, too_many, named, fits}
 use Rattle.map_laws.proofs.Skeleton.{kind_at, kind_is}
 use Rattle.map_laws.proofs.Refused.{first_none, refuse_none, nodes_fit}
 

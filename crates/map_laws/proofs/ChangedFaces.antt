@@ -1,5 +1,5 @@
 -- Facets with the fields of faces that were there: vertex, snap.
-use Rattle.std.proofs.Common.{◌≡◌, ℕ, ◌≤◌, List, [], ◌∷◌, ◌++◌, map, flat_map, length, not, Bool, true, false, cond, refl, ap, sym, ◌∙◌, subst, arith, None, ℤ}
+use Rattle.std.proofs.Common.{◌≡◌, ℕ, ◌≤◌, List, [], ◌∷◌, map, flat_map, length, Bool, true, false, cond, refl, ap, sym, subst, arith, None, ℤ}
 use Rattle.std.specs.Prelude.{nat_lt}
 use Rattle.std.specs.List.{list_any}
 use Rattle.std.proofs.lemmas.List.{length-map}
@@ -10,7 +10,7 @@ use Rattle.exact_geom.specs.Planes.{ThreePoints, half_space, IsPlane}
 use Rattle.trim_laws.specs.Valid.{Valid}
 use Rattle.uv_lock.specs.declared.texture.Format.{Format}
 use Rattle.map_model.specs.Faces.{Face}
-use Rattle.map_model.specs.Tree.{Whole, brush, faces_at, format_of, with_faces}
+use Rattle.map_model.specs.Tree.{Whole, faces_at, format_of, with_faces}
 use Rattle.map_model.specs.Edits.{renew}
 use Rattle.map_model.specs.Shape.{Shape, FaceOk, FacesOk, half_spaces}
 use Rattle.map_model.specs.Below.{Below, IsRight}
@@ -21,15 +21,14 @@ use Rattle.map_model.specs.Rows.{rows, first, refuse, is_flat_change, too_many}
 use Rattle.map_model.specs.Own.{own}
 use Rattle.map_model.proofs.Members.{in_map}
 use Rattle.map_laws.specs.Unlinked.{Unlinked}
-use Rattle.map_laws.proofs.Lists.{tally, tally-no_member}
+use Rattle.map_laws.proofs.Lists.{tally-no_member}
 use Rattle.map_laws.proofs.InTurn.{by_member}
-use Rattle.map_laws.proofs.Skeleton.{kind_at}
 use Rattle.map_laws.proofs.Refused.{refuse_none, each_none, nodes_fit}
 use Rattle.map_laws.proofs.RowsPass.{rows_pass}
 use Rattle.map_laws.proofs.TreeCommands.{renewed}
 use Rattle.map_laws.proofs.Retexturing.{keeps_faces, faces_put}
-use Rattle.map_laws.proofs.FairMaps.{Fair, fair_of}
-use Rattle.map_laws.proofs.Remaking.{Step, Ready, in_turn, remade_outcome}
+use Rattle.map_laws.proofs.FairMaps.{fair_of}
+use Rattle.map_laws.proofs.Remaking.{in_turn, remade_outcome}
 use Rattle.map_laws.proofs.RemakingSteps.{faces_step}
 use Rattle.map_laws.proofs.FacetFaces.{InWorld, firsts_in, none_outside, facet_plane, hull_valid}
 use Rattle.map_laws.proofs.RoundedPoints.{rounded_world}

@@ -1,8 +1,8 @@
 -- clip: a brush is cut by a plane, and a part of it stays, or both do.
-use Rattle.std.proofs.Common.{◌≡◌, ℕ, zero, suc, List, [], ◌∷◌, ◌++◌, Bool, true, false, ◌&&◌, not, refl, sym, subst, Some, None, ℤ, arith, ◌≤◌}
-use Rattle.std.specs.Prelude.{slice_index_or, unsigned_abs, nat_le, length}
+use Rattle.std.proofs.Common.{◌≡◌, ℕ, zero, suc, List, [], ◌∷◌, ◌++◌, true, false, ◌&&◌, not, refl, sym, subst, None, ℤ, arith, ◌≤◌}
+use Rattle.std.specs.Prelude.{slice_index_or, unsigned_abs, length}
 use Rattle.std.specs.List.{AllByRecursion}
-use Rattle.std.proofs.lemmas.Bool.{and_parts, and_from, le-leb}
+use Rattle.std.proofs.lemmas.Bool.{and_parts, le-leb}
 use Rattle.algebra.specs.Members.{◌∈◌, here, there}
 use Rattle.exact_geom.specs.declared.point.Point.{Point}
 use Rattle.exact_geom.specs.Planes.{ThreePoints, IsPlane, is_in_range, is_flat}
@@ -10,7 +10,7 @@ use Rattle.exact_geom.proofs.PlaneLaws.{is_plane, is_plane-reverse}
 use Rattle.uv_lock.specs.declared.texture.Format.{Format}
 use Rattle.cmd_text.specs.Kept.{IsPoint}
 use Rattle.map_model.specs.Faces.{Face}
-use Rattle.map_model.specs.Tree.{Whole, brush, up, faces_at, format_of}
+use Rattle.map_model.specs.Tree.{Whole, brush, faces_at, format_of}
 use Rattle.map_model.specs.Edits.{put_after}
 use Rattle.map_model.specs.Shape.{Shape, FaceOk, FacesOk}
 use Rattle.map_model.specs.Below.{Below, IsRight}
@@ -21,16 +21,15 @@ use Rattle.map_model.specs.Rows.{rows, first, refuse, at_each, too_many, back_pa
 use Rattle.map_model.specs.Own.{own, clip}
 use Rattle.map_laws.specs.Unlinked.{Unlinked}
 use Rattle.map_laws.specs.BoxCommand.{KeepsMaterial}
-use Rattle.map_laws.proofs.Lists.{tally, tally-no_member}
+use Rattle.map_laws.proofs.Lists.{tally-no_member}
 use Rattle.map_laws.proofs.InTurn.{by_member}
-use Rattle.map_laws.proofs.Skeleton.{kind_at}
 use Rattle.map_laws.proofs.Refused.{refuse_none, each_none, nodes_fit}
 use Rattle.map_laws.proofs.RowsPass.{rows_pass}
 use Rattle.map_laws.proofs.Holding.{parent_said}
 use Rattle.map_laws.proofs.Boxes.{IsNear}
 use Rattle.map_laws.proofs.BoxCommand.{near}
 use Rattle.map_laws.proofs.PlainFaces.{plain_in, plain_ok}
-use Rattle.map_laws.proofs.TrimmedFaces.{Encloses, brush_encloses, encloses_more, trimmed_ok}
+use Rattle.map_laws.proofs.TrimmedFaces.{brush_encloses, encloses_more, trimmed_ok}
 use Rattle.map_laws.proofs.FairMaps.{Fair, fair_of}
 use Rattle.map_laws.proofs.Remaking.{Step, step_then, Ready, in_turn, remade_outcome}
 use Rattle.map_laws.proofs.RemakingSteps.{faces_step, after_step}

@@ -1,5 +1,5 @@
 -- The facets of points that span space and lie in the world: the solid behind them is a brush, where they are few.
-use Rattle.std.proofs.Common.{◌≡◌, ℕ, ◌≤◌, List, [], ◌∷◌, map, length, Bool, true, false, not, cond, ◌&&◌, ◌||◌, inl, inr, ◌⊎◌, refl, ap, sym, ◌∙◌, subst, true≢false, arith, ℤ, pos, neg_ℤ, ◌<ℤ◌, ◌≤ℤ◌}
+use Rattle.std.proofs.Common.{◌≡◌, ◌≤◌, List, [], ◌∷◌, map, length, Bool, true, false, not, cond, ◌||◌, refl, ap, sym, ◌∙◌, subst, true≢false, arith, ℤ, pos, neg_ℤ, ◌<ℤ◌, ◌≤ℤ◌}
 use Rattle.std.specs.Prelude.{filter, int_le, flat_map, nat_lt, unsigned_abs}
 use Rattle.std.specs.List.{list_any, list_all}
 use Rattle.std.specs.Ordering.{int_eq}
@@ -21,7 +21,6 @@ use Rattle.trim_laws.specs.Trim.{Bears, Trims, ends, keeps}
 use Rattle.trim_laws.specs.Valid.{Valid}
 use Rattle.trim_laws.proofs.Bearing.{in_of_inside}
 use Rattle.trim_laws.proofs.SameHalfSpace.{same_refl, same_sym, same_trans}
-use Rattle.vertex_laws.specs.Cube.{cube}
 use Rattle.vertex_laws.proofs.Cube.{in_walls, of_walls}
 use Rattle.solid_laws.proofs.FourFaces.{four_faces}
 use Rattle.solid_laws.proofs.World.{world_bounded}

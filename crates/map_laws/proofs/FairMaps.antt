@@ -1,13 +1,13 @@
 -- Maps in which no group is linked and no node has a mark, on the way of a command: they are placed, and each node is right.
-use Rattle.std.proofs.Common.{◌≡◌, ◌≢◌, ℕ, ◌<◌, ◌≤◌, List, [], ◌∷◌, Bool, true, false, refl, ap, sym, ◌∙◌, subst, Option, Some, None, option_map, inl, inr, ◌⊎◌}
+use Rattle.std.proofs.Common.{◌≡◌, ℕ, ◌≤◌, [], Bool, true, false, refl, ap, sym, ◌∙◌, subst, Option, Some, None, option_map, inl, inr, ◌⊎◌}
 use Rattle.std.specs.Prelude.{unwrap_or, is_some}
 use Rattle.std.proofs.lemmas.Bool.{cases_lt}
 use Rattle.algebra.specs.Members.{◌∈◌}
 use Rattle.uv_lock.specs.declared.texture.Format.{Format}
-use Rattle.map_model.specs.Tree.{Whole, Node, Kind, group, at, children, is_kind, is_linked, link_of, mark_of, mark_at, set_at, format_of}
+use Rattle.map_model.specs.Tree.{Whole, Node, group, at, children, is_kind, is_linked, link_of, mark_of, mark_at, set_at, format_of}
 use Rattle.map_model.specs.Edits.{renew}
 use Rattle.map_model.specs.Commands.{Command}
-use Rattle.map_model.specs.Shape.{Shape, NodeOk, Numbers}
+use Rattle.map_model.specs.Shape.{Shape, NodeOk}
 use Rattle.map_model.specs.Apply.{prune}
 use Rattle.map_laws.specs.Placed.{Placed, Bounded, NoEmptyGroup, KeepsAll, NewOk}
 use Rattle.map_laws.specs.Unlinked.{Unlinked}
@@ -16,7 +16,7 @@ use Rattle.map_laws.proofs.Forest.{not_none}
 use Rattle.map_laws.proofs.Skeleton.{not_both, placed_of, standing_of}
 use Rattle.map_laws.proofs.Slots.{at-renew_same, at-renew_other}
 use Rattle.map_laws.proofs.Kept.{Comes, KeptAt, slot_alike, new_alike, bounded_by, format_kept}
-use Rattle.map_laws.proofs.Renewing.{Alike, renew_alike, alike_placed, renewed_slot}
+use Rattle.map_laws.proofs.Renewing.{renew_alike, alike_placed, renewed_slot}
 use Rattle.map_laws.proofs.Pruning.{Upwards, ToDo, HadChildren, prunes, prune-walk, prune_placed}
 use Rattle.map_laws.proofs.Pruned.{chain_list, drops_come}
 use Rattle.map_laws.proofs.Unlinking.{Outcome, is_none_by, no_marks, unlinked_marks}

@@ -1,5 +1,5 @@
 -- hollow: the walls of a box stand in its place.
-use Rattle.std.proofs.Common.{◌≡◌, ℕ, ◌+◌, ◌≤◌, List, [], ◌∷◌, ◌++◌, length, map, Bool, true, false, ◌==◌, ◌&&◌, ◌||◌, not, refl, ap, sym, ◌∙◌, subst, true≢false, arith, eqb-true, None, ℤ, pos, negsuc, neg_ℤ, ◌+ℤ◌, ◌-ℤ◌, ◌*ℤ◌, ◌<ℤ◌, ◌≤ℤ◌}
+use Rattle.std.proofs.Common.{◌≡◌, ℕ, ◌+◌, ◌≤◌, List, [], ◌∷◌, ◌++◌, length, map, Bool, true, false, ◌==◌, ◌&&◌, ◌||◌, not, refl, sym, ◌∙◌, subst, true≢false, arith, eqb-true, None, ℤ, pos, neg_ℤ, ◌+ℤ◌, ◌-ℤ◌, ◌*ℤ◌, ◌<ℤ◌, ◌≤ℤ◌}
 use Rattle.std.specs.Prelude.{int_le, filter}
 use Rattle.std.specs.List.{list_all, list_any}
 use Rattle.std.proofs.lemmas.Bool.{and_parts, or_parts}
@@ -11,7 +11,7 @@ use Rattle.algebra.specs.World.{world}
 use Rattle.exact_geom.specs.Planes.{half_space}
 use Rattle.uv_lock.specs.declared.texture.Format.{Format}
 use Rattle.map_model.specs.Faces.{Face}
-use Rattle.map_model.specs.Tree.{Whole, brush, faces_at, format_of}
+use Rattle.map_model.specs.Tree.{Whole, faces_at, format_of}
 use Rattle.map_model.specs.Edits.{replace_by}
 use Rattle.map_model.specs.Shape.{Shape, FaceOk, FacesOk, half_spaces}
 use Rattle.map_model.specs.Below.{Below, IsRight}
@@ -22,7 +22,7 @@ use Rattle.map_model.specs.Rows.{rows, first, refuse, is_short_along, has_short_
 use Rattle.map_model.specs.Own.{own}
 use Rattle.map_model.proofs.Members.{in_map, in_filter, decides_most}
 use Rattle.map_laws.specs.Unlinked.{Unlinked}
-use Rattle.map_laws.proofs.Lists.{tally, tally-no_member}
+use Rattle.map_laws.proofs.Lists.{tally-no_member}
 use Rattle.map_laws.proofs.InTurn.{by_member}
 use Rattle.map_laws.proofs.Refused.{refuse_none, each_none, nodes_fit}
 use Rattle.map_laws.proofs.RowsPass.{rows_pass}

@@ -1,5 +1,5 @@
 -- hull: a brush with a face for each facet of the points.
-use Rattle.std.proofs.Common.{◌≡◌, ℕ, ◌≤◌, List, [], ◌∷◌, map, length, not, true, refl, sym, subst, arith, None, ℤ}
+use Rattle.std.proofs.Common.{◌≡◌, ◌≤◌, List, not, refl, subst, None, ℤ}
 use Rattle.std.specs.List.{list_any}
 use Rattle.std.proofs.lemmas.List.{length-map}
 use Rattle.algebra.specs.Members.{◌∈◌}
@@ -18,7 +18,7 @@ use Rattle.map_laws.proofs.Refused.{refuse_none}
 use Rattle.map_laws.proofs.RowsPass.{rows_pass}
 use Rattle.map_laws.proofs.NewNodes.{put_in_world}
 use Rattle.map_laws.proofs.PlainFaces.{plain_in, plain_brush}
-use Rattle.map_laws.proofs.FacetFaces.{InWorld, firsts_in, none_outside, facet_plane, hull_valid}
+use Rattle.map_laws.proofs.FacetFaces.{firsts_in, none_outside, facet_plane, hull_valid}
 use Rattle.map_laws.proofs.BrushRows.{not_false, few}
 use Rattle.map_laws.proofs.Unlinking.{Outcome}
 

@@ -1,16 +1,15 @@
 -- intersect: the first brush becomes what is behind the faces of all, and the others go.
-use Rattle.std.proofs.Common.{◌≡◌, ℕ, ◌≤◌, List, [], ◌∷◌, ◌++◌, length, Bool, true, not, refl, ap, sym, ◌∙◌, subst, arith, Some, None, option_map}
-use Rattle.algebra.specs.Members.{◌∈◌, here, there, Every}
-use Rattle.uv_lock.specs.declared.texture.Format.{Format}
+use Rattle.std.proofs.Common.{◌≡◌, ℕ, ◌≤◌, List, [], ◌∷◌, ◌++◌, true, not, refl, ap, sym, ◌∙◌, subst, arith, Some, None}
+use Rattle.algebra.specs.Members.{◌∈◌, here, there}
 use Rattle.map_model.specs.Faces.{Face}
-use Rattle.map_model.specs.Tree.{Whole, brush, kind_of, faces_at, format_of, with_faces}
-use Rattle.map_model.specs.Edits.{each_in_turn, renew, delete}
-use Rattle.map_model.specs.Shape.{Shape, FaceOk, FacesOk}
+use Rattle.map_model.specs.Tree.{Whole, brush, faces_at, format_of, with_faces}
+use Rattle.map_model.specs.Edits.{renew, delete}
+use Rattle.map_model.specs.Shape.{Shape, FacesOk}
 use Rattle.map_model.specs.Below.{Below, IsRight}
 use Rattle.map_model.specs.Brushes.{has_inside}
 use Rattle.map_model.specs.Commands.{Command, IsGood, Settings, Intersect}
 use Rattle.map_model.specs.Replies.{Apart}
-use Rattle.map_model.specs.Rows.{rows, first, refuse, named, all_faces, first_apart, intersection, first_of}
+use Rattle.map_model.specs.Rows.{rows, first, refuse, named, all_faces, first_apart, intersection}
 use Rattle.map_model.specs.Own.{own, keep_first}
 use Rattle.map_model.proofs.Members.{in_flat}
 use Rattle.map_laws.specs.Unlinked.{Unlinked}
@@ -20,8 +19,8 @@ use Rattle.map_laws.proofs.Skeleton.{kind_at}
 use Rattle.map_laws.proofs.Refused.{first_none, refuse_none, nodes_fit}
 use Rattle.map_laws.proofs.RowsPass.{rows_pass}
 use Rattle.map_laws.proofs.TrimmedFaces.{Encloses, brush_encloses, encloses_more, trimmed_ok}
-use Rattle.map_laws.proofs.FairMaps.{Fair, fair_of}
-use Rattle.map_laws.proofs.Remaking.{Remade, Ready, in_turn, remade_then, still_ready, live_below, less, not_again, remade_outcome}
+use Rattle.map_laws.proofs.FairMaps.{fair_of}
+use Rattle.map_laws.proofs.Remaking.{Remade, in_turn, remade_then, still_ready, live_below, less, not_again, remade_outcome}
 use Rattle.map_laws.proofs.RemakingSteps.{faces_step}
 use Rattle.map_laws.proofs.Subtracting.{goes}
 use Rattle.map_laws.proofs.BrushRows.{not_false, named_brushes, brush_faces, few}

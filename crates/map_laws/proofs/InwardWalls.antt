@@ -1,7 +1,7 @@
 -- A wall of a box that is moved inward by less than half of each side stays in range.
-use Rattle.std.proofs.Common.{◌≡◌, ℕ, ◌≤◌, Bool, true, false, cond, refl, ap, sym, ◌∙◌, subst, true≢false, arith, List, [], ◌∷◌, ℤ, pos, negsuc, neg_ℤ, ◌+ℤ◌, ◌-ℤ◌, ◌*ℤ◌, ◌<ℤ◌, ◌≤ℤ◌, unsigned_abs}
+use Rattle.std.proofs.Common.{◌≡◌, ◌≤◌, Bool, true, false, cond, refl, ap, sym, ◌∙◌, subst, arith, [], ◌∷◌, ℤ, pos, negsuc, neg_ℤ, ◌+ℤ◌, ◌-ℤ◌, ◌*ℤ◌, ◌<ℤ◌, ◌≤ℤ◌, unsigned_abs}
 use Rattle.std.specs.Prelude.{int_lt}
-use Rattle.std.proofs.lemmas.Int.{ints, by_lt_z}
+use Rattle.std.proofs.lemmas.Int.{ints}
 use Rattle.algebra.specs.Space.{Vector, HalfSpace, dot, cross, minus, through, side, whole_point}
 use Rattle.algebra.proofs.Expr.{read}
 use Rattle.algebra.proofs.Ring.{ring}
@@ -9,7 +9,7 @@ use Rattle.algebra.proofs.Orders.{eq_by_3, by_sign, cancel-le_left}
 use Rattle.algebra.proofs.Identities.{with_vector, vector_by, through-first, through-second, through-third}
 use Rattle.exact_geom.specs.declared.point.Point.{Point}
 use Rattle.exact_geom.specs.Machine.{IsWithin}
-use Rattle.exact_geom.specs.Planes.{ThreePoints, half_space, vector, is_zero, is_in_range, IsPlane}
+use Rattle.exact_geom.specs.Planes.{ThreePoints, half_space, vector, is_zero, IsPlane}
 use Rattle.exact_geom.proofs.PlaneLaws.{good_points, is_plane, in_range}
 use Rattle.map_model.specs.Faces.{Face}
 use Rattle.map_model.specs.Brushes.{moved_by, sign_of, inward}

@@ -1,23 +1,21 @@
 -- merge: the first brush becomes the hull of the vertices of all, and the others go.
-use Rattle.std.proofs.Common.{◌≡◌, ℕ, ◌+◌, ◌*◌, ◌≤◌, List, [], ◌∷◌, map, flat_map, length, Bool, true, false, not, cond, ◌&&◌, ◌||◌, inl, inr, ◌⊎◌, refl, ap, sym, subst, ◌∙◌, true≢false, arith, Option, None, Some, ℤ, pos, ◌<ℤ◌, unsigned_abs}
+use Rattle.std.proofs.Common.{◌≡◌, ℕ, ◌*◌, ◌≤◌, List, [], ◌∷◌, map, flat_map, Bool, true, false, not, cond, ◌&&◌, ◌||◌, refl, ap, sym, subst, arith, Option, None, Some, ℤ, pos, ◌<ℤ◌, unsigned_abs}
 use Rattle.std.specs.List.{list_any, list_all, find}
-use Rattle.std.specs.Prelude.{filter}
 use Rattle.std.specs.Ordering.{int_eq}
 use Rattle.std.proofs.lemmas.Bool.{and_parts}
 use Rattle.std.proofs.lemmas.Bool.Decides.{Decides-int_eq}
 use Rattle.std.proofs.lemmas.Int.{ints}
 use Rattle.algebra.specs.Members.{◌∈◌, here, there, Every}
-use Rattle.algebra.specs.Space.{Vector, Homogeneous, HalfSpace, det, minus}
+use Rattle.algebra.specs.Space.{Vector, Homogeneous, det, minus}
 use Rattle.algebra.specs.World.{InCube, world}
 use Rattle.exact_geom.specs.declared.point.Point.{Point}
 use Rattle.exact_geom.specs.Planes.{ThreePoints, vector, IsPlane}
 use Rattle.hull_laws.specs.Facets.{Spans}
-use Rattle.uv_lock.specs.declared.texture.Format.{Format}
 use Rattle.map_model.specs.Faces.{Face}
-use Rattle.map_model.specs.Tree.{Whole, brush, faces_at, format_of}
-use Rattle.map_model.specs.Shape.{Shape, FaceOk, FacesOk, half_spaces}
+use Rattle.map_model.specs.Tree.{Whole, faces_at, format_of}
+use Rattle.map_model.specs.Shape.{Shape, FaceOk, half_spaces}
 use Rattle.map_model.specs.Below.{Below, IsRight}
-use Rattle.map_model.specs.Brushes.{spans_space, facets, first_of_each, is_same_point, distinct_points, as_point, is_whole, vertices_of, have_one_half_space}
+use Rattle.map_model.specs.Brushes.{spans_space, is_same_point, distinct_points, as_point, is_whole, vertices_of, have_one_half_space}
 use Rattle.map_model.specs.Commands.{IsGood, Settings, Merge}
 use Rattle.map_model.specs.Replies.{FractionalVertex}
 use Rattle.map_model.specs.Rows.{rows, first, refuse, plain_face, all_faces, fields_for, hull_points, merged}
@@ -25,9 +23,8 @@ use Rattle.map_model.specs.Own.{own}
 use Rattle.map_model.proofs.Members.{in_map, map_in, in_flat, flat_in, filter_in}
 use Rattle.map_laws.specs.Unlinked.{Unlinked}
 use Rattle.map_laws.specs.BoxCommand.{KeepsMaterial}
-use Rattle.map_laws.proofs.Lists.{tally, tally-no_member}
+use Rattle.map_laws.proofs.Lists.{tally-no_member}
 use Rattle.map_laws.proofs.InTurn.{by_member}
-use Rattle.map_laws.proofs.Skeleton.{kind_at}
 use Rattle.map_laws.proofs.Refused.{refuse_none, each_none, nodes_fit}
 use Rattle.map_laws.proofs.RowsPass.{rows_pass}
 use Rattle.map_laws.proofs.PlainFaces.{plain_ok}

@@ -1,5 +1,5 @@
 -- The pieces of a brush without others are brushes, where their faces are right and few.
-use Rattle.std.proofs.Common.{◌≡◌, ◌≤◌, List, [], ◌∷◌, ◌++◌, length, map, Bool, true, sym, subst}
+use Rattle.std.proofs.Common.{◌≤◌, List, [], ◌∷◌, ◌++◌, length, sym, subst}
 use Rattle.std.specs.Prelude.{filter}
 use Rattle.algebra.specs.Members.{◌∈◌, here, there, Every}
 use Rattle.exact_geom.proofs.PlaneLaws.{is_plane-reverse}

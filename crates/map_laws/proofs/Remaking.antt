@@ -1,11 +1,11 @@
 -- Commands that remake the brushes that they name, one by one: brushes get other faces or go, and new brushes come.
-use Rattle.std.proofs.Common.{◌≡◌, ◌≢◌, ℕ, suc, ◌<◌, ◌≤◌, List, [], ◌∷◌, Bool, true, false, cond, ◌==◌, refl, ap, sym, ◌∙◌, subst, arith, Option, Some, None, option_map, inl, inr, ◌⊎◌}
+use Rattle.std.proofs.Common.{◌≡◌, ◌≢◌, ℕ, suc, ◌<◌, ◌≤◌, List, [], ◌∷◌, true, false, cond, ◌==◌, refl, ap, sym, ◌∙◌, subst, arith, Some, option_map, inl, inr, ◌⊎◌}
 use Rattle.std.specs.Prelude.{unwrap_or}
 use Rattle.std.proofs.lemmas.Bool.{cases_lt}
 use Rattle.algebra.specs.Members.{◌∈◌, here, there}
 use Rattle.uv_lock.specs.declared.texture.Format.{Format}
 use Rattle.map_model.specs.Faces.{Face}
-use Rattle.map_model.specs.Tree.{Whole, Node, Kind, group, brush, at, up, above, faces_at, faces_of, kind_of, is_kind, format_of}
+use Rattle.map_model.specs.Tree.{Whole, Kind, group, brush, at, up, above, faces_at, faces_of, kind_of, is_kind, format_of}
 use Rattle.map_model.specs.Edits.{each_in_turn}
 use Rattle.map_model.specs.Commands.{Command}
 use Rattle.map_model.specs.Rows.{named}
@@ -13,15 +13,15 @@ use Rattle.map_model.specs.Shape.{Shape}
 use Rattle.map_laws.specs.Placed.{Bounded}
 use Rattle.map_laws.specs.Unlinked.{Unlinked}
 use Rattle.map_laws.proofs.Lists.{by_eq, tally, tally-head, member-tally, member-flat}
-use Rattle.map_laws.proofs.Beneath.{Beneath, some_one}
+use Rattle.map_laws.proofs.Beneath.{Beneath}
 use Rattle.map_laws.proofs.Forest.{not_none}
 use Rattle.map_laws.proofs.Skeleton.{kind_at, planted, kind_is, is_kind_by, placed_of}
 use Rattle.map_laws.proofs.Placing.{chains}
-use Rattle.map_laws.proofs.Pruning.{Upwards, ToDo, HadChildren}
+use Rattle.map_laws.proofs.Pruning.{Upwards, ToDo}
 use Rattle.map_laws.proofs.InTurn.{chains_up}
 use Rattle.map_laws.proofs.Fuel.{parent_rooted}
 use Rattle.map_laws.proofs.Pruned.{chain_list, child_of, no_child, above_live, parent_above, rooted_at, rooted_child}
-use Rattle.map_laws.proofs.FairMaps.{Fair, fair_of, fair_outcome}
+use Rattle.map_laws.proofs.FairMaps.{Fair, fair_outcome}
 use Rattle.map_laws.proofs.Unlinking.{Outcome}
 
 -- Nodes stay where they stood or go, and new ones are brushes.

@@ -2,27 +2,27 @@
 use Rattle.std.proofs.Common.{◌≡◌, ◌≢◌, ℕ, ◌+◌, ◌<◌, ◌≤◌, List, [], ◌∷◌, length, map, Bool, true, false, cond, ◌==◌, ◌||◌, refl, ap, sym, ◌∙◌, subst, arith, Option, Some, None, option_map, inl, inr}
 use Rattle.std.specs.Prelude.{unwrap_or, option_and_then}
 use Rattle.std.proofs.lemmas.Bool.{ne_eqb, eq-eqb, cases_lt}
-use Rattle.algebra.specs.Members.{◌∈◌, here, there}
+use Rattle.algebra.specs.Members.{◌∈◌}
 use Rattle.uv_lock.specs.declared.texture.Format.{Format}
 use Rattle.map_model.specs.Faces.{Face}
-use Rattle.map_model.specs.Tree.{Whole, Node, Brush, Kind, brush, at, up, kind_of, parent_of, is_brush, among, preorder, with_faces, faces_at, faces_of, numbers_from}
+use Rattle.map_model.specs.Tree.{Whole, Node, Brush, Kind, brush, at, up, kind_of, parent_of, is_brush, among, preorder, with_faces, numbers_from}
 use Rattle.map_model.specs.Edits.{each_in_turn, draw, renew, relist, in_place, without, take_out, forget, delete, replace_by, put_after, put_at}
 use Rattle.map_model.specs.Shape.{FacesOk}
 use Rattle.map_laws.specs.Placed.{Placed, Bounded}
 use Rattle.map_laws.proofs.Lists.{by_eq}
 use Rattle.map_laws.proofs.Beneath.{Beneath}
-use Rattle.map_laws.proofs.Forest.{not_none, up_or_not, live_or_not}
+use Rattle.map_laws.proofs.Forest.{not_none}
 use Rattle.map_laws.proofs.Skeleton.{kind_at, list_at, planted, not_both}
-use Rattle.map_laws.proofs.Slots.{relisted, kind-relisted, up-relisted, takes_kind, no_slot_list, by_bool, at-forget, next-forget, next-take_out, at-renew_same, at-renew_other, take_out-is, among_member}
+use Rattle.map_laws.proofs.Slots.{kind-relisted, up-relisted, takes_kind, no_slot_list, by_bool, at-forget, next-forget, next-take_out, at-renew_other, take_out-is}
 use Rattle.map_laws.proofs.Placing.{delete_placed}
-use Rattle.map_laws.proofs.Kept.{comes_then, delete_comes}
-use Rattle.map_laws.proofs.Replacing.{found, or_else, found_below, at-drawn, next-drawn, alone, d, ks, G, put_at-is, takes_p, replace_placed, put_after_placed}
+use Rattle.map_laws.proofs.Kept.{delete_comes}
+use Rattle.map_laws.proofs.Replacing.{found, or_else, found_below, at-drawn, next-drawn, alone, G, put_at-is, takes_p, replace_placed, put_after_placed}
 use Rattle.map_laws.proofs.Drawing.{replace_comes, put_after_comes}
 use Rattle.map_laws.proofs.InTurn.{kind-deleted, up-deleted, kind-gone, up_before, by_gone, beneath_gone}
 use Rattle.map_laws.proofs.Renewing.{renew_alike}
 use Rattle.map_laws.proofs.Retexturing.{keeps_faces, faces_put}
 use Rattle.map_laws.proofs.FairMaps.{Fair, fair_comes, fair_renew}
-use Rattle.map_laws.proofs.Remaking.{Keeps, Step}
+use Rattle.map_laws.proofs.Remaking.{Step}
 
 -- Other faces.
 pub faces_step : (f : Format) (n : ℕ) (m : Whole) (fs : List Face) → Fair f m → FacesOk f fs → Step f n m (renew n (with_faces fs) m)

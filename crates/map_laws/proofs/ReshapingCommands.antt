@@ -1,5 +1,5 @@
 -- The commands that remake brushes, where no group is linked: from the shape before to the shape after.
-use Rattle.std.proofs.Common.{◌≡◌, ℕ, List, [], ◌∷◌, flat_map, true, refl, sym, ◌∙◌, None}
+use Rattle.std.proofs.Common.{◌≡◌, [], ◌∷◌, flat_map, true, refl, sym, ◌∙◌, None}
 use Rattle.algebra.specs.Members.{here}
 use Rattle.map_model.specs.Tree.{Whole, at, format_of, with_faces, faces_at}
 use Rattle.map_model.specs.Shape.{Shape}

@@ -1,10 +1,10 @@
 -- A face with another texture: the brush keeps its half-spaces, and each face is right.
-use Rattle.std.proofs.Common.{◌≡◌, ℕ, zero, suc, ◌+◌, ◌*◌, ◌<◌, ◌≤◌, List, [], ◌∷◌, length, map, Bool, true, false, ◌==◌, ◌&&◌, refl, ap, sym, ◌∙◌, subst, arith, Option, Some, None, option_map, ℤ, pos, negsuc}
+use Rattle.std.proofs.Common.{◌≡◌, ℕ, zero, suc, ◌*◌, ◌<◌, List, [], ◌∷◌, length, true, ◌==◌, ◌&&◌, refl, ap, sym, subst, arith, Option, Some, None, option_map, ℤ, pos, negsuc}
 use Rattle.std.specs.Prelude.{unsigned_abs, int_le, nat_lt, unwrap_or}
 use Rattle.std.specs.List.{list_all, AllByRecursion}
 use Rattle.std.specs.Option.{option_map_or}
 use Rattle.std.proofs.lemmas.Bool.{and_from, and_parts, lt-ltb, ltb-true, eq-eqb}
-use Rattle.algebra.specs.Members.{◌∈◌, here, there, Every}
+use Rattle.algebra.specs.Members.{here, there, Every}
 use Rattle.exact_geom.specs.Planes.{half_space}
 use Rattle.trim_laws.specs.Valid.{Valid}
 use Rattle.uv_lock.specs.declared.texture.Format.{Format}
@@ -12,9 +12,9 @@ use Rattle.map_text.specs.Fits.{is_format}
 use Rattle.fixed_num.specs.Whole.{IsWide}
 use Rattle.cmd_text.specs.Kept.{IsPico, IsNano, IsMicro, IsNameText, KeepsSurface}
 use Rattle.map_model.specs.Faces.{Face, Tex, StandardFields, ValveFields, Surface, format_of_tex, axis_unit, offset_unit, degree_unit}
-use Rattle.map_model.specs.Tree.{Whole, Node, World, Layer, Group, Entity, Brush, at, kind_of, parent_of, brushes_of, others_of, link_of, mark_of, faces_of, faces_at, with_faces, format_of, format_of_node}
-use Rattle.map_model.specs.Shape.{Shape, FaceOk, FacesOk, NodeOk, half_spaces, is_below_million, are_below_million, are_fields_in_range, is_tex_in_range, is_surface_in_range, is_wide}
-use Rattle.map_model.specs.Commands.{IsGood, SurfaceWords, Stay, Out, Put}
+use Rattle.map_model.specs.Tree.{Node, World, Layer, Group, Entity, Brush, kind_of, parent_of, brushes_of, others_of, link_of, mark_of, faces_of, with_faces, format_of_node}
+use Rattle.map_model.specs.Shape.{FaceOk, FacesOk, NodeOk, half_spaces, is_below_million, are_below_million, are_fields_in_range, is_tex_in_range, is_surface_in_range, is_wide}
+use Rattle.map_model.specs.Commands.{SurfaceWords, Stay, Out, Put}
 use Rattle.map_model.specs.Own.{change_at, retextured, next_surface}
 use Rattle.map_model.proofs.Members.{decides_most}
 use Rattle.map_laws.specs.Placed.{KeepsAll}

@@ -1,9 +1,9 @@
 -- subtract: the pieces of each brush without another stand in its place, and the other goes.
-use Rattle.std.proofs.Common.{◌≡◌, ℕ, ◌≤◌, List, [], ◌∷◌, length, refl, ap, ◌∙◌, arith, Some, None, option_map}
+use Rattle.std.proofs.Common.{◌≡◌, ℕ, List, ◌∷◌, refl, ap, ◌∙◌, arith, Some, None, option_map}
 use Rattle.algebra.specs.Members.{◌∈◌, here, there}
 use Rattle.uv_lock.specs.declared.texture.Format.{Format}
 use Rattle.map_model.specs.Faces.{Face}
-use Rattle.map_model.specs.Tree.{Whole, brush, up, kind_of, faces_at, format_of}
+use Rattle.map_model.specs.Tree.{Whole, brush, kind_of, faces_at, format_of}
 use Rattle.map_model.specs.Edits.{each_in_turn, replace_by, delete}
 use Rattle.map_model.specs.Shape.{Shape, FacesOk}
 use Rattle.map_model.specs.Below.{Below, IsRight}
@@ -12,7 +12,7 @@ use Rattle.map_model.specs.Commands.{Settings, Subtract}
 use Rattle.map_model.specs.Rows.{rows, first, at_each, too_many}
 use Rattle.map_model.specs.Own.{own}
 use Rattle.map_laws.specs.Unlinked.{Unlinked}
-use Rattle.map_laws.proofs.Lists.{tally, tally-head, tally-no_member, member-tally}
+use Rattle.map_laws.proofs.Lists.{tally-head, tally-no_member, member-tally}
 use Rattle.map_laws.proofs.InTurn.{by_member}
 use Rattle.map_laws.proofs.Skeleton.{kind_at}
 use Rattle.map_laws.proofs.Refused.{each_none, nodes_fit}
@@ -21,7 +21,7 @@ use Rattle.map_laws.proofs.Holding.{parent_said}
 use Rattle.map_laws.proofs.TrimmedFaces.{brush_encloses}
 use Rattle.map_laws.proofs.PieceFaces.{pieces_ok}
 use Rattle.map_laws.proofs.FairMaps.{Fair, fair_of}
-use Rattle.map_laws.proofs.Remaking.{Step, Remade, Ready, in_turn, then_step, live_below, less, remade_outcome}
+use Rattle.map_laws.proofs.Remaking.{Step, Ready, in_turn, then_step, live_below, less, remade_outcome}
 use Rattle.map_laws.proofs.RemakingSteps.{replace_step, delete_step}
 use Rattle.map_laws.proofs.BrushRows.{named_brushes, brush_faces, each_few}
 use Rattle.map_laws.proofs.Unlinking.{Outcome}

@@ -1,14 +1,13 @@
 -- Lists of right faces that enclose a part of the world: what they are trimmed to is a brush.
-use Rattle.std.proofs.Common.{◌≡◌, ℕ, ◌≤◌, List, [], ◌∷◌, ◌++◌, length, map, Bool, true, false, not, ◌&&◌, ◌⊎◌, inl, inr, refl, ap, sym, subst, arith, pos, ◌<ℤ◌}
+use Rattle.std.proofs.Common.{◌≡◌, ◌≤◌, List, [], ◌∷◌, ◌++◌, length, Bool, true, false, not, ◌&&◌, ◌⊎◌, inl, inr, refl, ap, sym, subst, arith}
 use Rattle.std.specs.Prelude.{suc}
 use Rattle.std.specs.List.{list_any}
 use Rattle.algebra.specs.Members.{◌∈◌, here, there, Every}
-use Rattle.algebra.specs.Space.{HalfSpace, Homogeneous, dot}
+use Rattle.algebra.specs.Space.{HalfSpace, Homogeneous}
 use Rattle.algebra.specs.World.{InCube, world}
 use Rattle.exact_geom.specs.Planes.{half_space}
 use Rattle.exact_geom.proofs.PlaneLaws.{normal_positive}
 use Rattle.trim_laws.specs.Solid.{IsIn, Proper, Bounded}
-use Rattle.trim_laws.specs.Valid.{HasInside}
 use Rattle.trim_laws.proofs.Bearing.{in_of_inside}
 use Rattle.trim_laws.proofs.Faces.{trim_faces}
 use Rattle.trim_laws.proofs.Once.{valid}

@@ -1,15 +1,15 @@
 -- The vertices of a bounded solid with a point inside span space.
-use Rattle.std.proofs.Common.{◌≡◌, List, [], ◌∷◌, map, inl, inr, ◌⊎◌, refl, ap, sym, subst, ◌∙◌, arith, ℤ, pos, negsuc, neg_ℤ, ◌+ℤ◌, ◌*ℤ◌, ◌<ℤ◌, ◌≤ℤ◌}
+use Rattle.std.proofs.Common.{◌≡◌, List, [], ◌∷◌, map, inl, inr, ◌⊎◌, sym, subst, arith, ℤ, pos, negsuc, neg_ℤ, ◌*ℤ◌, ◌<ℤ◌, ◌≤ℤ◌}
 use Rattle.std.proofs.lemmas.Int.{ints, by_lt_z}
 use Rattle.algebra.specs.Members.{◌∈◌}
-use Rattle.algebra.specs.Space.{Vector, Homogeneous, HalfSpace, dot, cross, minus, scale, side, through, reverse, go, whole_point}
+use Rattle.algebra.specs.Space.{Vector, Homogeneous, HalfSpace, dot, minus, scale, side, through, reverse, go, whole_point}
 use Rattle.algebra.proofs.Expr.{read}
 use Rattle.algebra.proofs.Ring.{ring}
 use Rattle.algebra.proofs.Orders.{by_sign, nonneg-mul, positive-mul}
 use Rattle.algebra.proofs.Identities.{side-go, side-reverse, dot-neg}
 use Rattle.algebra.proofs.Points.{weight-go, same-behind, same-front}
 use Rattle.algebra.proofs.Vectors.{nonzero, across, cross_nonzero}
-use Rattle.trim_laws.specs.Solid.{IsIn, IsInside, Bounded}
+use Rattle.trim_laws.specs.Solid.{IsInside, Bounded}
 use Rattle.trim_laws.proofs.Bearing.{in_of_inside}
 use Rattle.trim_laws.proofs.Steps.{small, step_short, step_front}
 use Rattle.vertex_laws.specs.Vertex.{IsVertex}
