@@ -20,6 +20,7 @@ use Rattle.map_model.proofs.Members.{decides_less}
 use Rattle.map_laws.specs.Unlinked.{Unlinked}
 use Rattle.map_laws.specs.BoxCommand.{KeepsMaterial, MaterialLaw, BoxApplyLaw, BoxCommandLaw}
 use Rattle.map_laws.proofs.Refused.{refuse_none}
+use Rattle.map_laws.proofs.Tests.{not_false}
 use Rattle.map_laws.proofs.RowsPass.{rows_pass}
 use Rattle.map_laws.proofs.Texts.{name_material, name_some}
 use Rattle.map_laws.proofs.NewNodes.{put_in_world}
@@ -55,10 +56,6 @@ near [] h = record { x = omega arith; y = omega arith; z = omega arith }
 near (x ∷ []) h = record { x = h.0; y = omega arith; z = omega arith }
 near (x ∷ y ∷ []) h = record { x = h.0; y = h.1.0; z = omega arith }
 near (x ∷ y ∷ z ∷ more) h = record { x = h.0; y = h.1.0; z = h.1.1.0 }
-
-not_false : (b : Bool) → not b ≡ false → b ≡ true
-not_false true e = refl
-not_false false e = absurd (cc)
 
 outcome : (b : Below) (s : Settings) (m : Whole) (x y : List ℤ) → IsRight b → KeepsMaterial s → IsGood (Box x y) → Shape m → Unlinked m → first (rows b s m (Box x y)) ≡ None → Outcome m (Box x y) (own b s m (Box x y))
 outcome b s m x y right material good shape u e =

@@ -220,7 +220,7 @@ none_same f p (x ∷ xs) e g here = differ f x p (and_parts (is_apart f x) (list
 none_same f p (x ∷ xs) e g (there i) = none_same f p xs (and_parts (is_apart f x) (list_all (is_apart f) xs) e).1 g i
 
 -- The middle is near.
-within_reach : (z : ℤ) → unsigned_abs z ≤ 4352 → (negsuc 4351 ≤ℤ z) × (z ≤ℤ pos 4352)
+pub within_reach : (z : ℤ) → unsigned_abs z ≤ 4352 → (negsuc 4351 ≤ℤ z) × (z ≤ℤ pos 4352)
 within_reach (pos n) h = (omega (arith, ints), omega (arith, ints))
 within_reach (negsuc n) h = (omega (arith, ints), omega (arith, ints))
 

@@ -14,10 +14,6 @@ use Rattle.map_model.specs.Rows.{rows, first, at_each, too_many, named, fits}
 use Rattle.map_laws.proofs.Skeleton.{kind_at, kind_is}
 use Rattle.map_laws.proofs.Refused.{first_none, refuse_none, nodes_fit}
 
-pub not_false : (t : Bool) → not t ≡ false → t ≡ true
-not_false true e = refl
-not_false false e = absurd (cc)
-
 -- Each named node is a brush.
 pub named_brushes : (b : Below) (s : Settings) (m : Whole) (c : Command) → ((n : ℕ) → fits m c n ≡ is_brush m n) → first (rows b s m c) ≡ None → (n : ℕ) → n ∈ named c → kind_at m n ≡ Some brush
 named_brushes b s m c same e n i = kind_is m brush n (subst (λ t. t ≡ true) (same n) ((nodes_fit b s m c e).fit n i))

@@ -32,7 +32,8 @@ use Rattle.map_laws.proofs.Remaking.{in_turn, remade_outcome}
 use Rattle.map_laws.proofs.RemakingSteps.{faces_step}
 use Rattle.map_laws.proofs.FacetFaces.{InWorld, firsts_in, none_outside, facet_plane, hull_valid}
 use Rattle.map_laws.proofs.RoundedPoints.{rounded_world}
-use Rattle.map_laws.proofs.BrushRows.{not_false, named_brushes, brush_faces, few}
+use Rattle.map_laws.proofs.Tests.{not_false}
+use Rattle.map_laws.proofs.BrushRows.{named_brushes, brush_faces, few}
 use Rattle.map_laws.proofs.Unlinking.{Outcome}
 
 -- Faces on planes: fields give each plane a face.

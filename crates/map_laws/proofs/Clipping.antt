@@ -33,7 +33,8 @@ use Rattle.map_laws.proofs.TrimmedFaces.{brush_encloses, encloses_more, trimmed_
 use Rattle.map_laws.proofs.FairMaps.{Fair, fair_of}
 use Rattle.map_laws.proofs.Remaking.{Step, step_then, Ready, in_turn, remade_outcome}
 use Rattle.map_laws.proofs.RemakingSteps.{faces_step, after_step}
-use Rattle.map_laws.proofs.BrushRows.{not_false, named_brushes, brush_faces, each_few}
+use Rattle.map_laws.proofs.Tests.{not_false}
+use Rattle.map_laws.proofs.BrushRows.{named_brushes, brush_faces, each_few}
 use Rattle.map_laws.proofs.Unlinking.{Outcome}
 
 -- The plane of three points in range that aren't on a line.

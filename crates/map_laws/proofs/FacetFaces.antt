@@ -27,37 +27,17 @@ use Rattle.solid_laws.proofs.World.{world_bounded}
 use Rattle.hull_laws.specs.Facets.{Below, Spans}
 use Rattle.hull_laws.specs.Pivots.{Facet}
 use Rattle.hull_laws.proofs.Connect.{sum_3, inner, inner_weight, inside}
+use Rattle.hull_laws.proofs.Faces.{each_of_map}
 use Rattle.hull_laws.proofs.First.{same_of_ratio}
 use Rattle.hull_laws.proofs.Loop.{own_point, own_on}
 use Rattle.hull_laws.proofs.Separate.{separate}
 use Rattle.map_model.specs.Brushes.{spans_space, holds_all, triples, facets, first_of_each, have_one_half_space, is_outside_world}
 use Rattle.map_model.proofs.Members.{in_map, map_in, in_flat, flat_in, in_filter, filter_in, decides_most}
 use Rattle.map_model.proofs.Meaning.{same_half_space}
+use Rattle.map_laws.proofs.Tests.{not_true, all_true, all_by, some_passes}
+use Rattle.map_laws.proofs.Refused.{none_passes}
 use Rattle.map_laws.proofs.Boxes.{IsNear}
 use Rattle.map_laws.proofs.Clipping.{in_range}
-
--- Tests of lists. ----------------------------------------------------------------------------------------------------------------------
-
-pub some_passes : {A : Type 0} (p : A → Bool) (xs : List A) → list_any p xs ≡ true → (x : A) × (x ∈ xs) × (p x ≡ true)
-some_passes p [] e = absurd (cc)
-some_passes {A} p (x ∷ xs) e = by (p x) refl e (some_passes p xs)
-  where
-    by : (t : Bool) → p x ≡ t → (t || list_any p xs) ≡ true → (list_any p xs ≡ true → (y : A) × (y ∈ xs) × (p y ≡ true)) → (y : A) × (y ∈ (x ∷ xs)) × (p y ≡ true)
-    by true s e later = (x, here, s)
-    by false s e later = let k = later e in (k.0, there k.1, k.2)
-
-all_by : {A : Type 0} (p : A → Bool) (xs : List A) → ((x : A) → x ∈ xs → p x ≡ true) → list_all p xs ≡ true
-all_by p [] h = refl
-all_by p (x ∷ xs) h = and_from (p x) (list_all p xs) (h x here) (all_by p xs (λ y i. h y (there i)))
-
-each_of : {A : Type 0} (p : A → Bool) (xs : List A) → list_all p xs ≡ true → (x : A) → x ∈ xs → p x ≡ true
-each_of p [] e x i = elim i [ ]
-each_of p (y ∷ ys) e x here = (and_parts (p y) (list_all p ys) e).0
-each_of p (y ∷ ys) e x (there i) = each_of p ys (and_parts (p y) (list_all p ys) e).1 x i
-
-not_true : (t : Bool) → not t ≡ true → t ≡ false
-not_true true e = absurd (cc)
-not_true false e = refl
 
 -- Points of the world. -----------------------------------------------------------------------------------------------------------------
 
@@ -65,11 +45,6 @@ not_true false e = refl
 pub record InWorld (p : Point) : Type 0 where
   pub near : IsNear p
   pub within : InCube world (whole_point (vector p))
-
-none_of : {A : Type 0} (p : A → Bool) (xs : List A) → list_any p xs ≡ false → (x : A) → x ∈ xs → p x ≡ false
-none_of p [] e x i = elim i [ ]
-none_of p (y ∷ ys) e x here = (or_parts (p y) (list_any p ys) e).0
-none_of p (y ∷ ys) e x (there i) = none_of p ys (or_parts (p y) (list_any p ys) e).1 x i
 
 pub in_world : (p : Point) → unsigned_abs p.x ≤ 4096 → unsigned_abs p.y ≤ 4096 → unsigned_abs p.z ≤ 4096 → InWorld p
 unfolding whole_point
@@ -80,7 +55,7 @@ in_world p x y z = record {
 
 pub none_outside : (points : List Point) → list_any is_outside_world points ≡ false → (p : Point) → p ∈ points → InWorld p
 none_outside points e p i =
-    let k = none_of is_outside_world points e p i in
+    let k = none_passes is_outside_world points e p i in
     let x = or_parts (nat_lt 4096 (unsigned_abs p.x)) (nat_lt 4096 (unsigned_abs p.y) || nat_lt 4096 (unsigned_abs p.z)) k in
     let y = or_parts (nat_lt 4096 (unsigned_abs p.y)) (nat_lt 4096 (unsigned_abs p.z)) x.1 in
     in_world p (ltb-false 4096 (unsigned_abs p.x) x.0) (ltb-false 4096 (unsigned_abs p.y) y.0) (ltb-false 4096 (unsigned_abs p.z) y.1)
@@ -171,11 +146,6 @@ sum_weight : (a b c : Vector) → pos 0 <ℤ (sum_3 a b c).weight
 unfolding sum_3
 sum_weight a b c = omega (arith, ints)
 
-halves_of : (P : HalfSpace → Type 0) (ts : List ThreePoints) → ((t : ThreePoints) → t ∈ ts → P (half_space t)) → (h : HalfSpace) → h ∈ map half_space ts → P h
-halves_of P [] each h i = elim i [ ]
-halves_of P (t ∷ ts) each h here = each t here
-halves_of P (t ∷ ts) each h (there i) = halves_of P ts (λ u j. each u (there j)) h i
-
 module _ (points : List Point) (near : (p : Point) → p ∈ points → InWorld p) (wide : spans_space points ≡ true) where
   S : Spans (map vector points)
   S = spans points wide
@@ -200,7 +170,7 @@ module _ (points : List Point) (near : (p : Point) → p ∈ points → InWorld 
         second = subst (λ u. u.p1 ∈ points) (sym c.2) b.1;
         third = subst (λ u. u.p2 ∈ points) (sym c.2) c.1;
         unflat = not_true (is_flat t) h.0;
-        below = λ p j. (decides_most (side (half_space t) (whole_point (vector p))) (pos 0)).0 (each_of (λ p. int_le (side (half_space t) (whole_point (vector p))) (pos 0)) points h.1 p j);
+        below = λ p j. (decides_most (side (half_space t) (whole_point (vector p))) (pos 0)).0 (all_true (λ p. int_le (side (half_space t) (whole_point (vector p))) (pos 0)) points h.1 p j);
       }
 
   held_plane : (t : ThreePoints) → Held t → IsPlane t
@@ -232,7 +202,7 @@ module _ (points : List Point) (near : (p : Point) → p ∈ points → InWorld 
     at = sum_3 (vector t.p0) (vector t.p1) (vector t.p2);
     weight = sum_weight (vector t.p0) (vector t.p1) (vector t.p2);
     on = own_on (vector t.p0) (vector t.p1) (vector t.p2);
-    others = halves_of (λ g. ¬ (SameHalfSpace (half_space t) g) → side g (sum_3 (vector t.p0) (vector t.p1) (vector t.p2)) <ℤ pos 0) (facets points)
+    others = each_of_map (λ g. ¬ (SameHalfSpace (half_space t) g) → side g (sum_3 (vector t.p0) (vector t.p1) (vector t.p2)) <ℤ pos 0) half_space (facets points)
         (λ u j other. own_point (map vector points) S (half_space u) (proper u j) (below_all u (facet_held u j)) (vector t.p0) (vector t.p1) (vector t.p2) (facet_of t (facet_held t i)) (λ r. other (same_sym (same_of_ratio r))));
   }
 
@@ -242,7 +212,7 @@ module _ (points : List Point) (near : (p : Point) → p ∈ points → InWorld 
   kept earlier [] all before d apart = ends
   kept earlier (t ∷ rest) all before d apart = keeps
       (record {
-        first = halves_of (λ g. ¬ (SameHalfSpace g (half_space t))) earlier
+        first = each_of_map (λ g. ¬ (SameHalfSpace g (half_space t))) half_space earlier
             (λ e i h. true≢false (sym ((same_half_space (half_space e) (half_space t) (proper e (before e i)) (proper t (all t here))).1 h) ∙ apart e t i here));
         bears = own t (all t here);
       })
@@ -296,7 +266,7 @@ module _ (points : List Point) (near : (p : Point) → p ∈ points → InWorld 
       let o = inner (map vector points) S in
       let in_hull : IsInside (map half_space (facets points)) o = record {
         weight = inner_weight (map vector points) S;
-        all = halves_of (λ g. side g (inner (map vector points) S) <ℤ pos 0) (facets points) (λ t i. inside (map vector points) S (half_space t) (proper t i) (below_all t (facet_held t i)));
+        all = each_of_map (λ g. side g (inner (map vector points) S) <ℤ pos 0) half_space (facets points) (λ t i. inside (map vector points) S (half_space t) (proper t i) (below_all t (facet_held t i)));
       } in
       record {
         trimmed = kept [] (facets points) (λ t i. i) (λ t i. elim i [ ]) (distinct_firsts (filter (holds_all points) (triples points))) (λ e r i j. elim i [ ]);

@@ -33,21 +33,9 @@ use Rattle.map_laws.proofs.InwardWalls.{Corner, Spread, Thin, inward_plane}
 use Rattle.map_laws.proofs.FairMaps.{fair_of}
 use Rattle.map_laws.proofs.Remaking.{in_turn, remade_outcome}
 use Rattle.map_laws.proofs.Subtracting.{AreBrushes, put_in_place}
-use Rattle.map_laws.proofs.BrushRows.{not_false, named_brushes, brush_faces}
+use Rattle.map_laws.proofs.Tests.{not_false, all_true, not_all}
+use Rattle.map_laws.proofs.BrushRows.{named_brushes, brush_faces}
 use Rattle.map_laws.proofs.Unlinking.{Outcome}
-
-all_true : {A : Type 0} (t : A → Bool) (xs : List A) → list_all t xs ≡ true → (x : A) → x ∈ xs → t x ≡ true
-all_true t [] e x i = elim i [ ]
-all_true t (y ∷ ys) e x here = (and_parts (t y) (list_all t ys) e).0
-all_true t (y ∷ ys) e x (there i) = all_true t ys (and_parts (t y) (list_all t ys) e).1 x i
-
-not_all : {A : Type 0} (t : A → Bool) (xs : List A) → list_all t xs ≡ false → (x : A) × (x ∈ xs) × (t x ≡ false)
-not_all t [] e = absurd (cc)
-not_all {A} t (x ∷ xs) e = by (t x) refl e (not_all t xs)
-  where
-    by : (b : Bool) → t x ≡ b → (b && list_all t xs) ≡ false → (list_all t xs ≡ false → (y : A) × (y ∈ xs) × (t y ≡ false)) → (y : A) × (y ∈ (x ∷ xs)) × (t y ≡ false)
-    by false s e later = (x, here, s)
-    by true s e later = let k = later e in (k.0, there k.1, k.2)
 
 -- Vertices that are far apart. -------------------------------------------------------------------------------------------------------
 

@@ -19,7 +19,8 @@ use Rattle.map_laws.proofs.RowsPass.{rows_pass}
 use Rattle.map_laws.proofs.NewNodes.{put_in_world}
 use Rattle.map_laws.proofs.PlainFaces.{plain_in, plain_brush}
 use Rattle.map_laws.proofs.FacetFaces.{firsts_in, none_outside, facet_plane, hull_valid}
-use Rattle.map_laws.proofs.BrushRows.{not_false, few}
+use Rattle.map_laws.proofs.Tests.{not_false}
+use Rattle.map_laws.proofs.BrushRows.{few}
 use Rattle.map_laws.proofs.Unlinking.{Outcome}
 
 pub hulls : (b : Below) (s : Settings) (m : Whole) (points : List (List ℤ)) → KeepsMaterial s → Shape m → Unlinked m → first (rows b s m (Hull points)) ≡ None → Outcome m (Hull points) (own b s m (Hull points))

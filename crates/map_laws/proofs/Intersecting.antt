@@ -19,11 +19,13 @@ use Rattle.map_laws.proofs.Skeleton.{kind_at}
 use Rattle.map_laws.proofs.Refused.{first_none, refuse_none, nodes_fit}
 use Rattle.map_laws.proofs.RowsPass.{rows_pass}
 use Rattle.map_laws.proofs.TrimmedFaces.{Encloses, brush_encloses, encloses_more, trimmed_ok}
+use Rattle.map_laws.proofs.MovedMaps.{less, not_again}
 use Rattle.map_laws.proofs.FairMaps.{fair_of}
-use Rattle.map_laws.proofs.Remaking.{Remade, in_turn, remade_then, still_ready, live_below, less, not_again, remade_outcome}
+use Rattle.map_laws.proofs.Remaking.{Remade, in_turn, remade_then, still_ready, live_below, remade_outcome}
 use Rattle.map_laws.proofs.RemakingSteps.{faces_step}
 use Rattle.map_laws.proofs.Subtracting.{goes}
-use Rattle.map_laws.proofs.BrushRows.{not_false, named_brushes, brush_faces, few}
+use Rattle.map_laws.proofs.Tests.{not_false}
+use Rattle.map_laws.proofs.BrushRows.{named_brushes, brush_faces, few}
 use Rattle.map_laws.proofs.Unlinking.{Outcome}
 
 -- The first of the brushes gets right faces, and the others go.

@@ -14,7 +14,7 @@ use Rattle.exact_geom.proofs.PlaneLaws.{good_points, is_plane, in_range}
 use Rattle.map_model.specs.Faces.{Face}
 use Rattle.map_model.specs.Brushes.{moved_by, sign_of, inward}
 use Rattle.map_model.proofs.Members.{decides_less}
-use Rattle.map_laws.proofs.Boxes.{IsNear}
+use Rattle.map_laws.proofs.Boxes.{IsNear, within_reach}
 use Rattle.map_laws.proofs.Clipping.{in_range as near_in_range}
 use Rattle.map_laws.proofs.BoxWalls.{Along, along_x, along_y, along_z}
 
@@ -50,21 +50,17 @@ kept t n c e h = subst (λ z. unsigned_abs z ≤ 4352) (sym (ap (λ k. c +ℤ ne
     same : (t c : ℤ) → c +ℤ neg_ℤ (t *ℤ pos 0) ≡ c
     same t c = omega (arith, ints)
 
-reach : (c : ℤ) → unsigned_abs c ≤ 4352 → (negsuc 4351 ≤ℤ c) × (c ≤ℤ pos 4352)
-reach (pos n) h = (omega (arith, ints), omega (arith, ints))
-reach (negsuc n) h = (omega (arith, ints), omega (arith, ints))
-
 -- u and v are behind a wall with the part n of its normal and the coordinate c, and further apart than twice t.
 moved_in : (t n c u v : ℤ) → pos 0 ≤ℤ t → (n *ℤ u) ≤ℤ (n *ℤ c) → (n *ℤ v) ≤ℤ (n *ℤ c) → (t +ℤ t) <ℤ (u -ℤ v) → negsuc 4095 ≤ℤ v → u ≤ℤ pos 4096 → unsigned_abs c ≤ 4352 → ¬ (n ≡ pos 0) →
     unsigned_abs (moved t n c) ≤ 4352
 moved_in t n c u v some behind_u behind_v far low high size ne = by_sign n
     (λ l.
     let m : c ≤ℤ v = cancel-le_left (neg_ℤ n) (omega (arith, ints)) (turned n c v behind_v) in
-    subst (λ s. unsigned_abs (c +ℤ neg_ℤ (t *ℤ s)) ≤ 4352) (sym (sign_back n l)) (size_by (c +ℤ neg_ℤ (t *ℤ neg_ℤ (pos 1))) (omega (arith, ints, (reach c size).0)) (omega (arith, ints))))
+    subst (λ s. unsigned_abs (c +ℤ neg_ℤ (t *ℤ s)) ≤ 4352) (sym (sign_back n l)) (size_by (c +ℤ neg_ℤ (t *ℤ neg_ℤ (pos 1))) (omega (arith, ints, (within_reach c size).0)) (omega (arith, ints))))
     (λ e. absurd (ne e))
     (λ l.
     let m : u ≤ℤ c = cancel-le_left n l behind_u in
-    subst (λ s. unsigned_abs (c +ℤ neg_ℤ (t *ℤ s)) ≤ 4352) (sym (sign_front n l)) (size_by (c +ℤ neg_ℤ (t *ℤ pos 1)) (omega (arith, ints)) (omega (arith, ints, (reach c size).1))))
+    subst (λ s. unsigned_abs (c +ℤ neg_ℤ (t *ℤ s)) ≤ 4352) (sym (sign_front n l)) (size_by (c +ℤ neg_ℤ (t *ℤ pos 1)) (omega (arith, ints)) (omega (arith, ints, (within_reach c size).1))))
   where
     turned : (n c v : ℤ) → (n *ℤ v) ≤ℤ (n *ℤ c) → (neg_ℤ n *ℤ c) ≤ℤ (neg_ℤ n *ℤ v)
     turned n c v h =

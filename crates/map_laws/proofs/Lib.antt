@@ -15,6 +15,7 @@ pub mod Kept
 pub mod InTurn
 pub mod Renewing
 pub mod Drawing
+pub mod Tests
 pub mod Refused
 pub mod Pruned
 pub mod Holding

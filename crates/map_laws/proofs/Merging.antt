@@ -34,19 +34,11 @@ use Rattle.map_laws.proofs.RoundedPoints.{size_of}
 use Rattle.map_laws.proofs.VerticesSpan.{vertices_span}
 use Rattle.map_laws.proofs.ChangedFaces.{Fields, facets_ok}
 use Rattle.map_laws.proofs.Intersecting.{keeps_first}
-use Rattle.map_laws.proofs.BrushRows.{not_false, named_brushes, brush_faces, few}
+use Rattle.map_laws.proofs.Tests.{not_false, all_true, any_by}
+use Rattle.map_laws.proofs.BrushRows.{named_brushes, brush_faces, few}
 use Rattle.map_laws.proofs.Unlinking.{Outcome}
 
 -- Four points of a list. -----------------------------------------------------------------------------------------------------------------
-
-any_by : {A : Type 0} (p : A → Bool) (xs : List A) (x : A) → x ∈ xs → p x ≡ true → list_any p xs ≡ true
-any_by p [] x i e = elim i [ ]
-any_by p (y ∷ ys) x here e = ap (λ t. t || list_any p ys) e
-any_by p (y ∷ ys) x (there i) e = by (p y) (any_by p ys x i e)
-  where
-    by : (t : Bool) → list_any p ys ≡ true → (t || list_any p ys) ≡ true
-    by true f = refl
-    by false f = f
 
 not_zero : (z : ℤ) → pos 0 <ℤ z → not (int_eq z (pos 0)) ≡ true
 not_zero z h = by (int_eq z (pos 0)) (Decides-int_eq z (pos 0)).0
@@ -105,11 +97,6 @@ given_fields s m given material each = record {
     ok t is (Some f) h = let k = h f refl in record { form = k.form; plane = is; material = k.material; numbers = k.numbers }
 
 -- Whole vertices. --------------------------------------------------------------------------------------------------------------------------
-
-all_true : {A : Type 0} (t : A → Bool) (xs : List A) → list_all t xs ≡ true → (x : A) → x ∈ xs → t x ≡ true
-all_true t [] e x i = elim i [ ]
-all_true t (y ∷ ys) e x here = (and_parts (t y) (list_all t ys) e).0
-all_true t (y ∷ ys) e x (there i) = all_true t ys (and_parts (t y) (list_all t ys) e).1 x i
 
 vertex_world : (v : Homogeneous) → v.weight ≡ pos 1 → InCube world v → InWorld (as_point v)
 vertex_world v w c = in_world (as_point v) (most v.vector.x (size_of v.weight v.vector.x some c.left c.right)) (most v.vector.y (size_of v.weight v.vector.y some c.near c.far)) (most v.vector.z (size_of v.weight v.vector.z some c.bottom c.top))

@@ -37,10 +37,10 @@ pub record Renewed (m k : Whole) : Type 0 where
   pub shape : Shape k
   pub alike : Alike m k
 
-less : (a x : ℕ) (xs : List ℕ) → tally a xs ≤ tally a (x ∷ xs)
+pub less : (a x : ℕ) (xs : List ℕ) → tally a xs ≤ tally a (x ∷ xs)
 less a x xs = elim (x == a) as (λ b. tally a xs ≤ cond b (suc (tally a xs)) (tally a xs)) [ true ↦ omega arith | false ↦ omega arith ]
 
-not_again : (a q : ℕ) (qs : List ℕ) → ((x : ℕ) → tally x (q ∷ qs) ≤ 1) → a ∈ qs → a ≢ q
+pub not_again : (a q : ℕ) (qs : List ℕ) → ((x : ℕ) → tally x (q ∷ qs) ≤ 1) → a ∈ qs → a ≢ q
 not_again a q qs once i s = omega (arith, once q, tally-head q qs, member-tally a qs i, ap (λ z. tally z qs) s)
 
 -- Each of the numbers stands once in the list, and its node is right once it is changed.

@@ -21,6 +21,7 @@ use Rattle.map_laws.proofs.Pruning.{Upwards, ToDo}
 use Rattle.map_laws.proofs.InTurn.{chains_up}
 use Rattle.map_laws.proofs.Fuel.{parent_rooted}
 use Rattle.map_laws.proofs.Pruned.{chain_list, child_of, no_child, above_live, parent_above, rooted_at, rooted_child}
+use Rattle.map_laws.proofs.MovedMaps.{less, not_again}
 use Rattle.map_laws.proofs.FairMaps.{Fair, fair_outcome}
 use Rattle.map_laws.proofs.Unlinking.{Outcome}
 
@@ -100,12 +101,6 @@ then_step {f} {n} {ns} {m} {k} {l} a b old = record {
   where
     first : (q : ℕ) → q ≡ n → q ∈ (n ∷ ns)
     first q s = rw s here
-
-pub less : (a x : ℕ) (xs : List ℕ) → tally a xs ≤ tally a (x ∷ xs)
-less a x xs = elim (x == a) as (λ b. tally a xs ≤ cond b (suc (tally a xs)) (tally a xs)) [ true ↦ omega arith | false ↦ omega arith ]
-
-pub not_again : (a q : ℕ) (qs : List ℕ) → ((x : ℕ) → tally x (q ∷ qs) ≤ 1) → a ∈ qs → a ≢ q
-not_again a q qs once i s = omega (arith, once q, tally-head q qs, member-tally a qs i, ap (λ z. tally z qs) s)
 
 -- The brush n has faces of which P holds.
 pub record Ready (P : List Face → Type 0) (m : Whole) (n : ℕ) : Type 0 where

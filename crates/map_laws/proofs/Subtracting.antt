@@ -20,8 +20,9 @@ use Rattle.map_laws.proofs.RowsPass.{rows_pass}
 use Rattle.map_laws.proofs.Holding.{parent_said}
 use Rattle.map_laws.proofs.TrimmedFaces.{brush_encloses}
 use Rattle.map_laws.proofs.PieceFaces.{pieces_ok}
+use Rattle.map_laws.proofs.MovedMaps.{less}
 use Rattle.map_laws.proofs.FairMaps.{Fair, fair_of}
-use Rattle.map_laws.proofs.Remaking.{Step, Ready, in_turn, then_step, live_below, less, remade_outcome}
+use Rattle.map_laws.proofs.Remaking.{Step, Ready, in_turn, then_step, live_below, remade_outcome}
 use Rattle.map_laws.proofs.RemakingSteps.{replace_step, delete_step}
 use Rattle.map_laws.proofs.BrushRows.{named_brushes, brush_faces, each_few}
 use Rattle.map_laws.proofs.Unlinking.{Outcome}
