@@ -1,0 +1,9 @@
+pub mod Crossings
+pub mod Entering
+pub mod Lowering
+pub mod Lowest
+pub mod Members
+pub mod Parts
+pub mod Seeing
+pub mod Sizes
+pub mod Ways
