@@ -27,9 +27,9 @@ at_place s d = le_by (pos 0) (omega (arith, ints)) (ring (s ∷ d ∷ []) (searc
 -- A plane whose place isn't later than p / q is passed there.
 pub passed_by : (s d p q : ℤ) → ((p *ℤ d) <ℤ (s *ℤ q) → ⊥) → (q *ℤ s -ℤ p *ℤ d) ≤ℤ pos 0
 passed_by s d p q h = elim (le_or_lt (s *ℤ q) (p *ℤ d)) [
-    inl l ↦ le_by (p *ℤ d -ℤ s *ℤ q) (le_gap l) (ring (s ∷ d ∷ p ∷ q ∷ []) (search read depth 30) tt)
+  | inl l ↦ le_by (p *ℤ d -ℤ s *ℤ q) (le_gap l) (ring (s ∷ d ∷ p ∷ q ∷ []) (search read depth 30) tt)
   | inr k ↦ absurd (h k)
-  ]
+]
 
 -- What was passed at p / q is passed at the later place s / d too.
 pub passed_later : (x y p q s d : ℤ) → pos 0 <ℤ y → pos 0 <ℤ q → pos 0 <ℤ d → (q *ℤ x -ℤ p *ℤ y) ≤ℤ pos 0 → (p *ℤ d) <ℤ (s *ℤ q) → (d *ℤ x -ℤ s *ℤ y) ≤ℤ pos 0

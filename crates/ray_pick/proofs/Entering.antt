@@ -128,11 +128,12 @@ module _ (F : List HalfSpace) (a b : Vector) (e : Passing) (k : IsEntry F a b e)
     where
       no_gap : (x y : ℤ) → x ≤ℤ y → (x -ℤ y) ≤ℤ pos 0
       no_gap x y l = omega (arith, ints)
+
       both_ways : (z : ℤ) → pos 0 <ℤ z → z ≤ℤ pos 0 → ⊥
       both_ways z p q = omega (arith, ints)
 
   pub in_at_entry : Every (λ f. side f (point_at a b (place e)) ≤ℤ pos 0) F
   in_at_entry f i = elim (le_or_lt (side f (point_at a b (place e))) (pos 0)) [
-      inl l ↦ l
+    | inl l ↦ l
     | inr front ↦ elim (le_or_lt (side f (whole_point a)) (side f (whole_point b))) [ inl level ↦ absurd (not_in_front f i level front) | inr inward ↦ k.passed f i inward ]
-    ]
+  ]

@@ -18,8 +18,7 @@ returns-then-in_front c =
     let t = place c.args.at.now in
     let s = c.side-item.result in
     let o = c.of-passing.ensures in
-    let is = seen (bounds s) a b c.of-passing.result o.passes o.small t t.num t.den c.side_at.result refl refl c.requires.small.start c.requires.small.fall c.side_at.ensures in
-    (
+    let is = seen (bounds s) a b c.of-passing.result o.passes o.small t t.num t.den c.side_at.result refl refl c.requires.small.start c.requires.small.fall c.side_at.ensures in (
       λ e. absurd (true≢false (sym e)),
       λ all. absurd (in_front _ _ is c.if-in_front.true (all (bounds s) (is_member c.args.sides.now c.loop-side.side-index s c.loop-side-test.true c.side-item.is))),
     )
@@ -39,8 +38,7 @@ pub returns : goal.returns
 returns c =
     let a = vector c.args.from.now in
     let b = vector c.args.to.now in
-    let t = place c.args.at.now in
-    (
+    let t = place c.args.at.now in (
       λ e. every_all c.args.sides.now c.loop-side.side-index (λ f. side f (point_at a b t) ≤ℤ pos 0) c.loop-side-test.false c.loop-side.invariant,
       λ all. refl,
     )
