@@ -138,6 +138,27 @@ def difference(case, row):
     return [full] if full else found + [b'= %d pieces' % len(pieces)]
 
 
+def pushed_in(space, thickness):
+    """The half-space of a side along an axis, moved inward."""
+    *normal, distance = space
+    return (*normal, distance - thickness * sum(map(abs, normal)))
+
+
+def hollow(case, row):
+    part, thickness = row.split(b'|')
+    a, t = Brush(part, 0), int(thickness)
+    if not (1 <= t <= 4096):
+        raise NoCase('no thickness', row)
+    if len(a.spaces) != 6 or any(sum(map(bool, space[:3])) != 1 for space in a.spaces):
+        return [b'= NotBox']
+    corners = brushes.vertices(a.spaces)
+    if any(2 * t >= max(X[k] for X in corners) - min(X[k] for X in corners) for k in range(3)):
+        return [b'= Thick']
+    pieces = brushes.piece_lists(a.spaces, tuple(pushed_in(space, t) for space in a.spaces))
+    found = [brush_text(b'piece', spaces, a.tags + [tag + 2 ** 30 for tag in a.tags[:i + 1]]) for i, spaces in pieces]
+    return found + [b'= %d pieces' % len(pieces)]
+
+
 # Moved and rounded vertices
 
 def edited(spaces, change):
@@ -188,7 +209,9 @@ NUMBERS = {matrix(number): number for number in range(48)}
 
 def orientation(case, row):
     words = row.split()
-    if words[0] == b'turn':
+    if words == [b'identity']:
+        M = matrix(0)
+    elif words[0] == b'turn':
         M = motions.turning(words[1], int(words[2]), (0, 0, 0)).matrix
     elif words[0] == b'flip':
         M = motions.flipping(words[1], 0).matrix
@@ -203,6 +226,11 @@ def orientation(case, row):
 def product(case, row):
     a, b = integers(row)
     return [b'= %d' % NUMBERS[motions.product(matrix(a), matrix(b))]]
+
+
+def applied(case, row):
+    number, *vector = integers(row)
+    return [b'= ' + str([sum(m * v for m, v in zip(part, vector)) for part in matrix(number)]).encode()]
 
 
 def motion_of(numbers):
@@ -278,8 +306,9 @@ def valve_face(case, row):
     return [b'= None' if face is None else face_line(face)]
 
 
-ROWS.update({b'splits': split, b'intersections': intersection, b'differences': difference, b'moved-vertices': moved_vertices,
-             b'snaps': snap, b'orientations': orientation, b'products': product, b'chains': chain, b'moved-planes': moved_plane,
+ROWS.update({b'splits': split, b'intersections': intersection, b'differences': difference, b'hollows': hollow,
+             b'moved-vertices': moved_vertices,
+             b'snaps': snap, b'orientations': orientation, b'products': product, b'applied': applied, b'chains': chain, b'moved-planes': moved_plane,
              b'motion-texts': written_motion, b'carried': carried(False), b'locked': carried(True), b'coordinates': coordinates,
              b'valve-faces': valve_face})
 WHOLE = {b'polyhedron': polyhedron}

@@ -1,2 +1,4 @@
 mod Tagged
+mod Rising
+mod Joined
 mod AllOf

@@ -7,11 +7,11 @@ use Rattle.solid_brush.specs.declared.side.Side.{Side}
 use Rattle.solid_brush.specs.Sides.{DistinctTags, no_sides, one_more_side}
 use Rattle.part_rows.specs.Numbered.{AreNumbered}
 
-each_and_last : {A : Type 0} (P : A → Type 0) (xs : List A) (y : A) → Every P xs → P y → Every P (xs ++ y ∷ [])
+pub each_and_last : {A : Type 0} (P : A → Type 0) (xs : List A) (y : A) → Every P xs → P y → Every P (xs ++ y ∷ [])
 each_and_last P [] y ps p = each_of_more P y [] p (each_of_none P)
 each_and_last P (x ∷ xs) y ps p = each_of_more P x (xs ++ y ∷ []) (ps x here) (each_and_last P xs y (λ z m. ps z (there m)) p)
 
-distinct_and_last : (sides : List Side) (s : Side) → DistinctTags sides → Every (λ t. t.tag < s.tag) sides → DistinctTags (sides ++ s ∷ [])
+pub distinct_and_last : (sides : List Side) (s : Side) → DistinctTags sides → Every (λ t. t.tag < s.tag) sides → DistinctTags (sides ++ s ∷ [])
 distinct_and_last [] s no_sides low = one_more_side (each_of_none (λ t. ¬ (s.tag ≡ t.tag))) no_sides
 distinct_and_last (t ∷ sides) s (one_more_side apart others) low =
     let below = low t here in

@@ -4,24 +4,14 @@ ghost use Rattle.std.specs.Prelude.{◌≡◌, ◌↔◌, ◌<◌, ◌^◌, leng
 ghost use Rattle.algebra.specs.Members.{Every};
 ghost use Rattle.exact_geom.specs.Planes.{is_in_range};
 
-use crate::row::Row;
+use crate::row::points;
 use case_text::CaseFault;
 use exact_geom::Point;
 use hull_merge::hull;
 use std::alloc::Global;
 
-// The points of a row, each in brackets.
-fn points(alloc: Global, spelled: &str) -> Result<Vec<Point>, CaseFault> {
-    let mut points = Vec::new(alloc);
-    let mut parts = spelled.split('(');
-    let _before = parts.next();
-    for part in parts {
-        points.push(Row::of(part).point()?)?;
-    }
-    Ok(points)
-}
-
-fn is_in_range(point: &Point) -> bool
+/// Whether each coordinate is at most 4352 in size.
+pub fn is_in_range(point: &Point) -> bool
     ensures { result ≡ is_in_range point.now }
 {
     point.x.unsigned_abs() <= 4352
@@ -47,8 +37,37 @@ fn add_facets(alloc: Global, out: &mut String, points: &[Point]) -> Result<(), C
     Ok(())
 }
 
-/// Adds the facets of the points of a row, by the places of points, or why they have no hull.
+// How many facets the points of a row have, if they have a hull.
+fn facet_count(alloc: Global, spelled: &str) -> Result<Option<usize>, CaseFault> {
+    let points = points(alloc, spelled)?;
+    if points.len() > 10_000 || !are_in_range(&points) {
+        return Err(CaseFault::Number);
+    }
+    Ok(
+        hull(alloc, &points)
+            .ok()
+            .map(|hull| hull.facets.list().len()),
+    )
+}
+
+// How many facets there are each time, where it is the same so many times.
+fn same_count(alloc: Global, spelled: &str, times: u32) -> Result<Option<usize>, CaseFault> {
+    let count = facet_count(alloc, spelled)?;
+    for _ in 1..times {
+        if facet_count(alloc, spelled)? != count {
+            return Err(CaseFault::Number);
+        }
+    }
+    Ok(count)
+}
+
+/// Adds the facets of the points of a row, by the places of points, or why they have no hull. Of `5 times` and points it adds how many
+/// facets they have each time.
 pub fn add_hull(alloc: Global, out: &mut String, spelled: &str) -> Result<(), CaseFault> {
+    if let Some((times, spelled)) = spelled.split_once(" times ") {
+        let count = same_count(alloc, spelled, times.parse().ok().ok_or(CaseFault::Number)?)?;
+        return Ok(writeln!(out, "= {times} times {count:?}")?);
+    }
     let points = points(alloc, spelled)?;
     if points.len() > 10_000 || !are_in_range(&points) {
         return Err(CaseFault::Number);

@@ -1,6 +1,9 @@
 //! The kinds of cases.
 
-use crate::{documents, hulls, maps, numbers, planes, solids, tokens, vertices, words};
+use crate::{
+    carried, cutting, documents, hulls, maps, motions, moved, numbers, planes, polyhedra,
+    properties, solids, tokens, vertices, words,
+};
 use case_text::{Answers, Case, CaseFault, Texts, spelled_bytes};
 use cmd_text::read_line;
 use fixed_num::{read_micro, read_nano, read_pico, read_wide};
@@ -39,6 +42,25 @@ enum Table {
     Three,
     // Whether texts are kept as words.
     Words,
+    // Brushes that are cut by a plane or by others, hollowed, and those whose vertices are moved or rounded.
+    Splits,
+    Intersections,
+    Differences,
+    Hollows,
+    MovedVertices,
+    Snaps,
+    // Orientations, their products and what they turn, motions one after another, planes that they move, and their texts.
+    Orientations,
+    Products,
+    Applied,
+    Chains,
+    MovedPlanes,
+    MotionTexts,
+    // Faces that motions carry, without and with lock, their texture coordinates, and in the Valve format.
+    Carried,
+    Locked,
+    Coordinates,
+    ValveFaces,
 }
 
 impl Table {
@@ -66,6 +88,22 @@ impl Table {
             "file-keys" => Some(Table::FileKeys),
             "three" => Some(Table::Three),
             "words" => Some(Table::Words),
+            "splits" => Some(Table::Splits),
+            "intersections" => Some(Table::Intersections),
+            "differences" => Some(Table::Differences),
+            "hollows" => Some(Table::Hollows),
+            "moved-vertices" => Some(Table::MovedVertices),
+            "snaps" => Some(Table::Snaps),
+            "orientations" => Some(Table::Orientations),
+            "products" => Some(Table::Products),
+            "applied" => Some(Table::Applied),
+            "chains" => Some(Table::Chains),
+            "moved-planes" => Some(Table::MovedPlanes),
+            "motion-texts" => Some(Table::MotionTexts),
+            "carried" => Some(Table::Carried),
+            "locked" => Some(Table::Locked),
+            "coordinates" => Some(Table::Coordinates),
+            "valve-faces" => Some(Table::ValveFaces),
             _ => None,
         }
     }
@@ -116,6 +154,22 @@ fn add_answer(
         Table::FileKeys => Ok(writeln!(out, "= {:?}", file_keys().find(row.bytes))?),
         Table::Three => words::add_three(alloc, out, row.spelled),
         Table::Words => Ok(writeln!(out, "= {}", Word::of(row.bytes).is_some())?),
+        Table::Splits => cutting::add_split_row(alloc, out, row.spelled),
+        Table::Intersections => cutting::add_common_row(alloc, out, row.spelled),
+        Table::Differences => cutting::add_difference_row(alloc, out, row.spelled),
+        Table::Hollows => cutting::add_hollow_row(alloc, out, row.spelled),
+        Table::MovedVertices => moved::add_move_row(alloc, out, row.spelled),
+        Table::Snaps => moved::add_snap_row(alloc, out, row.spelled),
+        Table::Orientations => Ok(motions::add_orient(out, row.spelled)?),
+        Table::Products => motions::add_product(out, row.spelled),
+        Table::Applied => motions::add_applied(out, row.spelled),
+        Table::Chains => motions::add_chain(out, row.spelled),
+        Table::MovedPlanes => motions::add_moved_plane(out, row.spelled),
+        Table::MotionTexts => motions::add_text(alloc, out, row.bytes),
+        Table::Carried => carried::add_carried(alloc, out, row.spelled, false),
+        Table::Locked => carried::add_carried(alloc, out, row.spelled, true),
+        Table::Coordinates => carried::add_uv(alloc, out, row.spelled),
+        Table::ValveFaces => carried::add_valve(alloc, out, row.spelled),
     }
 }
 
@@ -155,8 +209,9 @@ impl Answers for Parts {
         if let Some(table) = Table::named(case.kind()) {
             return add_table(alloc, table, case, texts, out);
         }
-        case.add_to(out)?;
         match case.kind() {
+            "polyhedron" => polyhedra::answer(alloc, case, out),
+            "properties" => properties::answer(alloc, case, out),
             "solid" => solids::answer(alloc, case, out),
             "cuts" => maps::add_cuts(alloc, case, texts, out),
             _ => Err(CaseFault::NoKind),

@@ -4,12 +4,19 @@
 //! thing that is asked. The answers that are wanted were worked out apart from the program.
 #![tactic(auto)]
 
+mod brushes;
+mod carried;
+mod cutting;
 mod documents;
 mod hulls;
 mod kinds;
 mod maps;
+mod motions;
+mod moved;
 mod numbers;
 mod planes;
+mod polyhedra;
+mod properties;
 mod row;
 mod sides;
 mod solids;

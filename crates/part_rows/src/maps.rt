@@ -96,6 +96,7 @@ pub fn add_cuts(
     texts: &Texts,
     out: &mut String,
 ) -> Result<(), CaseFault> {
+    case.add_to(out)?;
     let text = named(case, texts)?;
     let mut first = 0;
     let mut fault = refusal(alloc, b"")?;

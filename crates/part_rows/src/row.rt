@@ -2,6 +2,7 @@
 
 use case_text::CaseFault;
 use exact_geom::{Plane, PlaneFault, Point};
+use std::alloc::Global;
 use std::num::ParseIntError;
 use std::str::{FromStr, SplitWhitespace};
 
@@ -45,4 +46,15 @@ impl<'a> Row<'a> {
     pub fn plane(&mut self) -> Result<Plane, CaseFault> {
         self.try_plane()?.ok().ok_or(CaseFault::Number)
     }
+}
+
+/// The points of a row, each in brackets.
+pub fn points(alloc: Global, spelled: &str) -> Result<Vec<Point>, CaseFault> {
+    let mut points = Vec::new(alloc);
+    let mut parts = spelled.split('(');
+    let _before = parts.next();
+    for part in parts {
+        points.push(Row::of(part).point()?)?;
+    }
+    Ok(points)
 }

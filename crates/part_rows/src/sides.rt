@@ -100,3 +100,14 @@ pub fn sides(alloc: Global, case: &Case<'_>) -> Result<Vec<Side>, CaseFault>
     }
     Ok(sides)
 }
+
+/// The sides that a part of a row spells, one behind another with a `/` between.
+pub fn sides_of_part(alloc: Global, part: &str) -> Result<Vec<Side>, CaseFault>
+    ensures numbered { IfOk result (λ sides. AreNumbered sides.items) }
+{
+    let mut sides = no_sides(alloc);
+    for spelled in part.split('/') {
+        add_row(&mut sides, spelled.trim())?;
+    }
+    Ok(sides)
+}

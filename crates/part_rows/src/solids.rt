@@ -1,22 +1,13 @@
 //! Solids by their sides: those that they need, their vertices, and the loop of each side.
 
-ghost use Rattle.std.specs.Prelude.{◌↔◌, ◌+◌, ◌^◌, ◌<◌, IsTrue};
-ghost use Rattle.algebra.specs.Members.{Every};
 ghost use Rattle.part_rows.specs.Numbered.{AreNumbered};
 
+use crate::brushes::{add_tags, has_room};
 use crate::sides::sides;
 use crate::vertices::add_parts;
 use case_text::{Case, CaseFault};
 use solid_brush::{Side, Solid};
 use std::alloc::{AllocError, Global};
-
-fn add_tags(out: &mut String, name: &str, solid: &Solid) -> Result<(), AllocError> {
-    write!(out, "= {name}")?;
-    for side in solid.sides() {
-        write!(out, " {}", side.tag)?;
-    }
-    writeln!(out, "")
-}
 
 fn add_vertices(out: &mut String, solid: &Solid) -> Result<(), AllocError> {
     for number in 0..solid.vertex_count() {
@@ -42,24 +33,12 @@ fn add_loop(out: &mut String, solid: &Solid, face: u32) -> Result<(), AllocError
 
 fn add_solid(out: &mut String, solid: &Solid) -> Result<(), AllocError> {
     add_tags(out, "sides", solid)?;
+    out.push('\n')?;
     add_vertices(out, solid)?;
     for face in 0..solid.sides().len() {
         add_loop(out, solid, face as u32)?;
     }
     Ok(())
-}
-
-fn fits(side: &Side, base: u32) -> bool
-    ensures { IsTrue result ↔ (side.now.tag + base < 2 ^ 31) }
-{
-    u64::from(side.tag) + u64::from(base) < 1 << 31
-}
-
-// Whether the number may be added to each tag.
-fn has_room(sides: &[Side], base: u32) -> bool
-    ensures { IsTrue result ↔ Every (λ s. s.tag + base < 2 ^ 31) sides.now }
-{
-    sides.iter().all(|side| fits(side, base))
 }
 
 // Adds a copy of a solid, and the tags of the solid itself with a number added to each.
@@ -72,7 +51,7 @@ fn add_retagged(alloc: Global, solid: Solid, base: u32, out: &mut String) -> Res
     solid.retag(base);
     add_solid(out, &copy)?;
     add_tags(out, "tags", &solid)?;
-    Ok(())
+    Ok(out.push('\n')?)
 }
 
 // Adds what the solid of the sides is, or why there is none.
@@ -96,5 +75,6 @@ fn add_built(
 
 /// Adds what the solid of the sides of a case is, or why there is none.
 pub fn answer(alloc: Global, case: &Case<'_>, out: &mut String) -> Result<(), CaseFault> {
+    case.add_to(out)?;
     add_built(alloc, case, &sides(alloc, case)?, out)
 }

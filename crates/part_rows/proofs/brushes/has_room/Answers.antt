@@ -1,7 +1,7 @@
 use Rattle.std.proofs.Common.{◌+◌, ◌^◌, ◌<◌, rules, tests}
 use Rattle.std.proofs.lemmas.Iterator.{cases_from_all, YieldsList-from_slice}
 use Rattle.part_rows.proofs.AllOf.{all_of_cases, every_of_all, all_of_every}
-use Rattle.part_rows.proofs.solids.has_room.Goals as goal
+use Rattle.part_rows.proofs.brushes.has_room.Goals as goal
 
 pub returns : goal.returns
 returns c =

@@ -1,0 +1,142 @@
+//! Faces that motions carry, and their texture coordinates.
+
+use crate::hulls::is_in_range;
+use crate::motions::motion;
+use crate::row::Row;
+use case_text::{CaseFault, add_line};
+use exact_geom::{Plane, Rows};
+use fixed_num::{Frac, Text};
+use map_text::{MapDoc, RawBrush, RawEntity, read_map};
+use map_write::{all_good, write_map};
+use std::alloc::{AllocError, Global};
+use uv_lock::{Face, Format, Tex, carry, to_valve, uv_at};
+
+// The face that is the only one of a text's first brush.
+fn only_face(doc: &MapDoc) -> Option<&Face> {
+    match doc.entities.list().first()?.brushes.list().first()? {
+        RawBrush::Faces(faces) => faces.list().first(),
+        RawBrush::Bad(_) => None,
+    }
+}
+
+// The face of a line of a map text.
+fn face(alloc: Global, line: &str) -> Result<Face, CaseFault> {
+    let text = format!(in alloc; "{{ {{ {line} }} }}\n")?;
+    let Ok(doc) = read_map(alloc, text.as_bytes()) else {
+        return Err(CaseFault::Line);
+    };
+    Ok(only_face(&doc).ok_or(CaseFault::Line)?.copy(alloc)?)
+}
+
+// The document with a face alone.
+fn document(alloc: Global, format: Format, face: Face) -> Result<MapDoc, CaseFault> {
+    let mut faces = Vec::new(alloc);
+    faces.push(face)?;
+    let mut brushes = Vec::new(alloc);
+    brushes.push(RawBrush::Faces(Rows::of(faces)))?;
+    let mut entities = Vec::new(alloc);
+    entities.push(RawEntity {
+        props: Rows::of(Vec::new(alloc)),
+        brushes: Rows::of(brushes),
+    })?;
+    Ok(MapDoc {
+        format,
+        entities: Rows::of(entities),
+    })
+}
+
+const BEFORE: &[u8] = b"// entity 0\n{\n// brush 0\n{\n";
+
+const BEHIND: &[u8] = b"\n}\n}\n";
+
+// The line of the only face in what a document is written as.
+fn only_line(written: &[u8]) -> Option<&[u8]> {
+    written.strip_prefix(BEFORE)?.strip_suffix(BEHIND)
+}
+
+// Adds the line of a map text that has the face.
+fn add_face(
+    alloc: Global,
+    out: &mut String,
+    plane: Plane,
+    material: &Text,
+    tex: Tex,
+) -> Result<(), CaseFault> {
+    let material = Text::of(alloc, material.bytes())?;
+    let doc = document(
+        alloc,
+        Format::Valve,
+        Face {
+            plane,
+            material,
+            tex,
+        },
+    )?;
+    if !all_good(&doc) {
+        return Err(CaseFault::Line);
+    }
+    let written = write_map(alloc, &doc)?;
+    Ok(add_line(out, "= ", only_line(&written).ok_or(CaseFault::Line)?)?)
+}
+
+fn add_fraction(out: &mut String, number: &Frac) -> Result<(), AllocError> {
+    write!(out, " {}", number.num)?;
+    if number.den != 1 {
+        write!(out, "/{}", number.den)?;
+    }
+    Ok(())
+}
+
+fn add_lost(out: &mut String, offset: &Frac) -> Result<(), AllocError> {
+    out.push_str("= no offset")?;
+    add_fraction(out, offset)?;
+    out.push('\n')
+}
+
+/// Adds the face that a motion makes of a face, with or without lock, or why there is none.
+pub fn add_carried(
+    alloc: Global,
+    out: &mut String,
+    spelled: &str,
+    lock: bool,
+) -> Result<(), CaseFault> {
+    let (motion_part, line) = spelled.split_once('|').ok_or(CaseFault::Line)?;
+    let motion = motion(motion_part)?;
+    let face = face(alloc, line)?;
+    match (motion.plane(&face.plane), carry(&face, &motion, lock)) {
+        (_, Err(lost)) => Ok(add_lost(out, &lost.offset)?),
+        (Err(place), _) => Ok(writeln!(out, "= Err({place})")?),
+        (Ok(plane), Ok(tex)) => add_face(alloc, out, plane, &face.material, tex),
+    }
+}
+
+fn add_coordinates(out: &mut String, found: &Option<[Frac; 2]>) -> Result<(), AllocError> {
+    match found {
+        Some([u, v]) => {
+            out.push('=')?;
+            add_fraction(out, u)?;
+            add_fraction(out, v)?;
+            out.push('\n')
+        }
+        None => writeln!(out, "= None"),
+    }
+}
+
+/// Adds the texture coordinates of a point on a face, if it has any.
+pub fn add_uv(alloc: Global, out: &mut String, spelled: &str) -> Result<(), CaseFault> {
+    let (point, line) = spelled.split_once('|').ok_or(CaseFault::Line)?;
+    let at = Row::of(point).point()?;
+    if !is_in_range(&at) {
+        return Err(CaseFault::Number);
+    }
+    Ok(add_coordinates(out, &uv_at(&face(alloc, line)?, at))?)
+}
+
+/// Adds a face in the Valve format, if it can be.
+pub fn add_valve(alloc: Global, out: &mut String, line: &str) -> Result<(), CaseFault> {
+    let face = face(alloc, line)?;
+    match to_valve(&face) {
+        Some(tex) => add_face(alloc, out, face.plane, &face.material, tex),
+        None => Ok(writeln!(out, "= None")?),
+    }
+}
