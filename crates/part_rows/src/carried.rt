@@ -28,20 +28,22 @@ fn face(alloc: Global, line: &str) -> Result<Face, CaseFault> {
     Ok(only_face(&doc).ok_or(CaseFault::Line)?.copy(alloc)?)
 }
 
+// A list of one item.
+fn only<T: Drop>(alloc: Global, item: T) -> Result<Rows<T>, CaseFault> {
+    let mut list = Vec::new(alloc);
+    list.push(item)?;
+    Ok(Rows::of(list))
+}
+
 // The document with a face alone.
 fn document(alloc: Global, format: Format, face: Face) -> Result<MapDoc, CaseFault> {
-    let mut faces = Vec::new(alloc);
-    faces.push(face)?;
-    let mut brushes = Vec::new(alloc);
-    brushes.push(RawBrush::Faces(Rows::of(faces)))?;
-    let mut entities = Vec::new(alloc);
-    entities.push(RawEntity {
+    let entity = RawEntity {
         props: Rows::of(Vec::new(alloc)),
-        brushes: Rows::of(brushes),
-    })?;
+        brushes: only(alloc, RawBrush::Faces(only(alloc, face)?))?,
+    };
     Ok(MapDoc {
         format,
-        entities: Rows::of(entities),
+        entities: only(alloc, entity)?,
     })
 }
 
@@ -118,7 +120,7 @@ fn add_coordinates(out: &mut String, found: &Option<[Frac; 2]>) -> Result<(), Al
             add_fraction(out, v)?;
             out.push('\n')
         }
-        None => writeln!(out, "= None"),
+        None => out.push_str("= None\n"),
     }
 }
 
@@ -137,6 +139,6 @@ pub fn add_valve(alloc: Global, out: &mut String, line: &str) -> Result<(), Case
     let face = face(alloc, line)?;
     match to_valve(&face) {
         Some(tex) => add_face(alloc, out, face.plane, &face.material, tex),
-        None => Ok(writeln!(out, "= None")?),
+        None => Ok(out.push_str("= None\n")?),
     }
 }

@@ -6,6 +6,7 @@ ghost use Rattle.csg_ops.specs.Cuts.{all_sides};
 
 use crate::brushes::{add_brush, brush, has_room};
 use crate::row::Row;
+use crate::shown::add_shown;
 use case_text::CaseFault;
 use csg_ops::{Halves, hollow, intersect, split, subtract};
 use exact_geom::Plane;
@@ -87,7 +88,7 @@ fn add_split(alloc: Global, out: &mut String, a: &Solid, plane: &Plane) -> Resul
     };
     match split(alloc, a, cut) {
         Ok(halves) => Ok(add_halves(out, &halves)?),
-        Err(fault) => Ok(writeln!(out, "= {fault:?}")?),
+        Err(fault) => add_shown(out, &fault),
     }
 }
 
@@ -116,7 +117,7 @@ fn add_common(alloc: Global, out: &mut String, brushes: &[Solid]) -> Result<(), 
     }
     match intersect(alloc, brushes) {
         Ok(common) => Ok(add_brush(out, "common", &common)?),
-        Err(fault) => Ok(writeln!(out, "= {fault:?}")?),
+        Err(fault) => add_shown(out, &fault),
     }
 }
 
@@ -129,7 +130,7 @@ fn add_difference(alloc: Global, out: &mut String, a: &Solid, b: &Solid) -> Resu
     have_tags(alloc, a.sides(), b.sides())?;
     match subtract(alloc, a, b) {
         Ok(pieces) => Ok(add_pieces(out, &pieces)?),
-        Err(fault) => Ok(writeln!(out, "= {fault:?}")?),
+        Err(fault) => add_shown(out, &fault),
     }
 }
 
@@ -147,7 +148,7 @@ fn add_walls(alloc: Global, out: &mut String, a: &Solid, thickness: i32) -> Resu
     }
     match hollow(alloc, a, thickness) {
         Ok(walls) => Ok(add_pieces(out, &walls)?),
-        Err(fault) => Ok(writeln!(out, "= {fault:?}")?),
+        Err(fault) => add_shown(out, &fault),
     }
 }
 

@@ -1,5 +1,6 @@
 //! What map texts read as.
 
+use crate::shown::add_shown;
 use case_text::{Case, CaseFault, Texts, add_line, add_lines};
 use map_text::{MapDoc, RawBrush, RawEntity, ReadFault, read_map};
 use map_write::{all_good, write_map};
@@ -25,7 +26,7 @@ fn add_brushes(out: &mut String, doc: &MapDoc) -> Result<(), AllocError> {
     for entity in doc.entities.list() {
         add_entity(out, entity)?;
     }
-    writeln!(out, "")
+    out.push('\n')
 }
 
 /// What stands around the part of a text that a row spells, by the fields of a case.
@@ -103,15 +104,15 @@ pub fn add_read(
 ) -> Result<(), CaseFault> {
     match read(alloc, text)? {
         Ok(doc) => Ok(add_document(alloc, out, around, texts, &doc)?),
-        Err(fault) => Ok(writeln!(out, "= {fault:?}")?),
+        Err(fault) => add_shown(out, &fault),
     }
 }
 
 /// Adds the format of a text, or why it is refused.
 pub fn add_format(alloc: Global, out: &mut String, text: &[u8]) -> Result<(), CaseFault> {
     match read(alloc, text)? {
-        Ok(doc) => Ok(writeln!(out, "= {:?}", doc.format)?),
-        Err(fault) => Ok(writeln!(out, "= {fault:?}")?),
+        Ok(doc) => add_shown(out, &doc.format),
+        Err(fault) => add_shown(out, &fault),
     }
 }
 

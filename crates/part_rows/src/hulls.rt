@@ -5,6 +5,7 @@ ghost use Rattle.algebra.specs.Members.{Every};
 ghost use Rattle.exact_geom.specs.Planes.{is_in_range};
 
 use crate::row::points;
+use crate::shown::add_shown;
 use case_text::CaseFault;
 use exact_geom::Point;
 use hull_merge::hull;
@@ -31,10 +32,9 @@ fn add_facets(alloc: Global, out: &mut String, points: &[Point]) -> Result<(), C
     requires range { Every (λ p. IsTrue (is_in_range p)) points.now }
 {
     match hull(alloc, points) {
-        Ok(hull) => writeln!(out, "= {:?}", hull.facets.list())?,
-        Err(fault) => writeln!(out, "= {fault:?}")?,
+        Ok(hull) => add_shown(out, &hull.facets.list()),
+        Err(fault) => add_shown(out, &fault),
     }
-    Ok(())
 }
 
 // How many facets the points of a row have, if they have a hull.

@@ -1,5 +1,6 @@
 //! The kinds of cases.
 
+use crate::shown::add_shown;
 use crate::{
     carried, cutting, documents, hulls, maps, motions, moved, numbers, planes, polyhedra,
     properties, solids, tokens, vertices, words,
@@ -9,105 +10,6 @@ use cmd_text::read_line;
 use fixed_num::{read_micro, read_nano, read_pico, read_wide};
 use key_table::{Word, command_keys, file_keys};
 use std::alloc::Global;
-
-// What the rows of a table ask.
-#[derive(Clone, Copy)]
-enum Table {
-    // What counts words are read as, and what whole numbers, up to a limit or of 32 bits.
-    Millionths,
-    Billionths,
-    Trillionths,
-    Whole,
-    Wide,
-    // What decimals counts are written as.
-    Decimals,
-    Quotients,
-    Divisors,
-    Planes,
-    HalfSpaces,
-    Vertices,
-    Hulls,
-    // What tokens texts are cut into, and which formats they have.
-    Tokens,
-    Formats,
-    // Map texts by a part, by another line, and by the faces of a brush.
-    Maps,
-    Lines,
-    Faces,
-    // What commands lines of scripts read as.
-    ScriptLines,
-    // The places of command words, of the keys of a file, and of words in tables of three.
-    Commands,
-    FileKeys,
-    Three,
-    // Whether texts are kept as words.
-    Words,
-    // Brushes that are cut by a plane or by others, hollowed, and those whose vertices are moved or rounded.
-    Splits,
-    Intersections,
-    Differences,
-    Hollows,
-    MovedVertices,
-    Snaps,
-    // Orientations, their products and what they turn, motions one after another, planes that they move, and their texts.
-    Orientations,
-    Products,
-    Applied,
-    Chains,
-    MovedPlanes,
-    MotionTexts,
-    // Faces that motions carry, without and with lock, their texture coordinates, and in the Valve format.
-    Carried,
-    Locked,
-    Coordinates,
-    ValveFaces,
-}
-
-impl Table {
-    fn named(kind: &str) -> Option<Table> {
-        match kind {
-            "millionths" => Some(Table::Millionths),
-            "billionths" => Some(Table::Billionths),
-            "trillionths" => Some(Table::Trillionths),
-            "whole" => Some(Table::Whole),
-            "wide" => Some(Table::Wide),
-            "decimals" => Some(Table::Decimals),
-            "quotients" => Some(Table::Quotients),
-            "divisors" => Some(Table::Divisors),
-            "planes" => Some(Table::Planes),
-            "half-spaces" => Some(Table::HalfSpaces),
-            "vertices" => Some(Table::Vertices),
-            "hulls" => Some(Table::Hulls),
-            "tokens" => Some(Table::Tokens),
-            "formats" => Some(Table::Formats),
-            "maps" => Some(Table::Maps),
-            "lines" => Some(Table::Lines),
-            "faces" => Some(Table::Faces),
-            "script-lines" => Some(Table::ScriptLines),
-            "commands" => Some(Table::Commands),
-            "file-keys" => Some(Table::FileKeys),
-            "three" => Some(Table::Three),
-            "words" => Some(Table::Words),
-            "splits" => Some(Table::Splits),
-            "intersections" => Some(Table::Intersections),
-            "differences" => Some(Table::Differences),
-            "hollows" => Some(Table::Hollows),
-            "moved-vertices" => Some(Table::MovedVertices),
-            "snaps" => Some(Table::Snaps),
-            "orientations" => Some(Table::Orientations),
-            "products" => Some(Table::Products),
-            "applied" => Some(Table::Applied),
-            "chains" => Some(Table::Chains),
-            "moved-planes" => Some(Table::MovedPlanes),
-            "motion-texts" => Some(Table::MotionTexts),
-            "carried" => Some(Table::Carried),
-            "locked" => Some(Table::Locked),
-            "coordinates" => Some(Table::Coordinates),
-            "valve-faces" => Some(Table::ValveFaces),
-            _ => None,
-        }
-    }
-}
 
 // A row as it is spelled, and its bytes.
 #[derive(Drop)]
@@ -122,61 +24,86 @@ fn number(case: &Case<'_>, name: &str) -> Result<u32, CaseFault> {
     number.parse().ok().ok_or(CaseFault::Number)
 }
 
-// Adds what a row asks of numbers, planes, tokens and words, or passes it on to what maps answer.
-fn add_answer(
+// Adds what a row asks of map texts, lines of scripts or words.
+fn add_of_texts(
     alloc: Global,
-    table: Table,
     case: &Case<'_>,
     texts: &Texts,
     row: &Row<'_>,
     out: &mut String,
 ) -> Result<(), CaseFault> {
-    match table {
-        Table::Millionths => Ok(writeln!(out, "= {:?}", read_micro(row.bytes))?),
-        Table::Billionths => Ok(writeln!(out, "= {:?}", read_nano(row.bytes))?),
-        Table::Trillionths => Ok(writeln!(out, "= {:?}", read_pico(row.bytes))?),
-        Table::Whole => numbers::add_whole(out, row.bytes, i64::from(number(case, "limit")?)),
-        Table::Wide => Ok(writeln!(out, "= {:?}", read_wide(row.bytes))?),
-        Table::Decimals => numbers::add_decimal(out, row.spelled, number(case, "places")?),
-        Table::Quotients => numbers::add_quotient(out, row.spelled),
-        Table::Divisors => numbers::add_divisor(out, row.spelled),
-        Table::Planes => planes::add_plane(out, row.spelled),
-        Table::HalfSpaces => planes::add_same(out, row.spelled),
-        Table::Vertices => vertices::add_vertex(out, row.spelled),
-        Table::Hulls => hulls::add_hull(alloc, out, row.spelled),
-        Table::Tokens => tokens::add_tokens(out, row.bytes),
-        Table::Formats => documents::add_format(alloc, out, row.bytes),
-        Table::Maps => maps::add_part(alloc, case, texts, out, row.bytes),
-        Table::Lines => maps::add_changed(alloc, case, texts, out, row.spelled),
-        Table::Faces => maps::add_judged(alloc, texts, out, row.spelled),
-        Table::ScriptLines => Ok(writeln!(out, "= {:?}", read_line(alloc, row.bytes))?),
-        Table::Commands => Ok(writeln!(out, "= {:?}", command_keys().find(row.bytes))?),
-        Table::FileKeys => Ok(writeln!(out, "= {:?}", file_keys().find(row.bytes))?),
-        Table::Three => words::add_three(alloc, out, row.spelled),
-        Table::Words => Ok(writeln!(out, "= {}", Word::of(row.bytes).is_some())?),
-        Table::Splits => cutting::add_split_row(alloc, out, row.spelled),
-        Table::Intersections => cutting::add_common_row(alloc, out, row.spelled),
-        Table::Differences => cutting::add_difference_row(alloc, out, row.spelled),
-        Table::Hollows => cutting::add_hollow_row(alloc, out, row.spelled),
-        Table::MovedVertices => moved::add_move_row(alloc, out, row.spelled),
-        Table::Snaps => moved::add_snap_row(alloc, out, row.spelled),
-        Table::Orientations => Ok(motions::add_orient(out, row.spelled)?),
-        Table::Products => motions::add_product(out, row.spelled),
-        Table::Applied => motions::add_applied(out, row.spelled),
-        Table::Chains => motions::add_chain(out, row.spelled),
-        Table::MovedPlanes => motions::add_moved_plane(out, row.spelled),
-        Table::MotionTexts => motions::add_text(alloc, out, row.bytes),
-        Table::Carried => carried::add_carried(alloc, out, row.spelled, false),
-        Table::Locked => carried::add_carried(alloc, out, row.spelled, true),
-        Table::Coordinates => carried::add_uv(alloc, out, row.spelled),
-        Table::ValveFaces => carried::add_valve(alloc, out, row.spelled),
+    match case.kind() {
+        "tokens" => tokens::add_tokens(out, row.bytes),
+        "formats" => documents::add_format(alloc, out, row.bytes),
+        "maps" => maps::add_part(alloc, case, texts, out, row.bytes),
+        "lines" => maps::add_changed(alloc, case, texts, out, row.spelled),
+        "faces" => maps::add_judged(alloc, texts, out, row.spelled),
+        "script-lines" => add_shown(out, &read_line(alloc, row.bytes)),
+        "commands" => add_shown(out, &command_keys().find(row.bytes)),
+        "file-keys" => add_shown(out, &file_keys().find(row.bytes)),
+        "three" => words::add_three(alloc, out, row.spelled),
+        "words" => add_shown(out, &Word::of(row.bytes).is_some()),
+        _ => Err(CaseFault::NoKind),
+    }
+}
+
+// Adds what a row asks of brushes, motions or faces.
+fn add_of_shapes(
+    alloc: Global,
+    case: &Case<'_>,
+    texts: &Texts,
+    row: &Row<'_>,
+    out: &mut String,
+) -> Result<(), CaseFault> {
+    match case.kind() {
+        "splits" => cutting::add_split_row(alloc, out, row.spelled),
+        "intersections" => cutting::add_common_row(alloc, out, row.spelled),
+        "differences" => cutting::add_difference_row(alloc, out, row.spelled),
+        "hollows" => cutting::add_hollow_row(alloc, out, row.spelled),
+        "moved-vertices" => moved::add_move_row(alloc, out, row.spelled),
+        "snaps" => moved::add_snap_row(alloc, out, row.spelled),
+        "orientations" => motions::add_orient(out, row.spelled),
+        "products" => motions::add_product(out, row.spelled),
+        "applied" => motions::add_applied(out, row.spelled),
+        "chains" => motions::add_chain(out, row.spelled),
+        "moved-planes" => motions::add_moved_plane(out, row.spelled),
+        "motion-texts" => motions::add_text(alloc, out, row.bytes),
+        "carried" => carried::add_carried(alloc, out, row.spelled, false),
+        "locked" => carried::add_carried(alloc, out, row.spelled, true),
+        "coordinates" => carried::add_uv(alloc, out, row.spelled),
+        "valve-faces" => carried::add_valve(alloc, out, row.spelled),
+        _ => add_of_texts(alloc, case, texts, row, out),
+    }
+}
+
+// Adds what a row asks, by the kind of its case.
+fn add_answer(
+    alloc: Global,
+    case: &Case<'_>,
+    texts: &Texts,
+    row: &Row<'_>,
+    out: &mut String,
+) -> Result<(), CaseFault> {
+    match case.kind() {
+        "millionths" => add_shown(out, &read_micro(row.bytes)),
+        "billionths" => add_shown(out, &read_nano(row.bytes)),
+        "trillionths" => add_shown(out, &read_pico(row.bytes)),
+        "whole" => numbers::add_whole(out, row.bytes, i64::from(number(case, "limit")?)),
+        "wide" => add_shown(out, &read_wide(row.bytes)),
+        "decimals" => numbers::add_decimal(out, row.spelled, number(case, "places")?),
+        "quotients" => numbers::add_quotient(out, row.spelled),
+        "divisors" => numbers::add_divisor(out, row.spelled),
+        "planes" => planes::add_plane(out, row.spelled),
+        "half-spaces" => planes::add_same(out, row.spelled),
+        "vertices" => vertices::add_vertex(out, row.spelled),
+        "hulls" => hulls::add_hull(alloc, out, row.spelled),
+        _ => add_of_shapes(alloc, case, texts, row, out),
     }
 }
 
 // Adds a case, and behind each of its rows the answer.
 fn add_table(
     alloc: Global,
-    table: Table,
     case: &Case<'_>,
     texts: &Texts,
     out: &mut String,
@@ -189,7 +116,7 @@ fn add_table(
                 spelled,
                 bytes: &bytes,
             };
-            add_answer(alloc, table, case, texts, &row, out)?;
+            add_answer(alloc, case, texts, &row, out)?;
         }
     }
     Ok(())
@@ -206,15 +133,12 @@ impl Answers for Parts {
         texts: &Texts,
         out: &mut String,
     ) -> Result<(), CaseFault> {
-        if let Some(table) = Table::named(case.kind()) {
-            return add_table(alloc, table, case, texts, out);
-        }
         match case.kind() {
             "polyhedron" => polyhedra::answer(alloc, case, out),
             "properties" => properties::answer(alloc, case, out),
             "solid" => solids::answer(alloc, case, out),
             "cuts" => maps::add_cuts(alloc, case, texts, out),
-            _ => Err(CaseFault::NoKind),
+            _ => add_table(alloc, case, texts, out),
         }
     }
 }

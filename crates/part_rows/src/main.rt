@@ -18,6 +18,7 @@ mod planes;
 mod polyhedra;
 mod properties;
 mod row;
+mod shown;
 mod sides;
 mod solids;
 mod tokens;

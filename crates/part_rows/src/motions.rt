@@ -1,6 +1,8 @@
 //! Orientations and motions.
 
 use crate::row::Row;
+use crate::shown::add_shown;
+use crate::vertices::add_point;
 use case_text::{CaseFault, add_line};
 use exact_geom::{Axis, Point};
 use orient48::{Motion, Orient, read_motion, write_motion};
@@ -41,9 +43,9 @@ fn orient(spelled: &str) -> Option<Orient> {
 }
 
 /// Adds an orientation: its number and its matrix, the number of the way back, and whether it is a flip.
-pub fn add_orient(out: &mut String, spelled: &str) -> Result<(), AllocError> {
+pub fn add_orient(out: &mut String, spelled: &str) -> Result<(), CaseFault> {
     let Some(orient) = orient(spelled) else {
-        return writeln!(out, "= None");
+        return Ok(out.push_str("= None\n")?);
     };
     let (matrix, back, flip) = (orient.matrix(), orient.inverse(), orient.is_flip());
     writeln!(
@@ -51,7 +53,8 @@ pub fn add_orient(out: &mut String, spelled: &str) -> Result<(), AllocError> {
         "= {} {matrix:?}, back {}, flip {flip}",
         orient.number(),
         back.number()
-    )
+    )?;
+    Ok(())
 }
 
 // The orientation of the next number of a row.
@@ -63,8 +66,7 @@ fn next_orient(row: &mut Row<'_>) -> Result<Orient, CaseFault> {
 pub fn add_product(out: &mut String, spelled: &str) -> Result<(), CaseFault> {
     let mut row = Row::of(spelled);
     let (a, b) = (next_orient(&mut row)?, next_orient(&mut row)?);
-    writeln!(out, "= {}", a.compose(b).number())?;
-    Ok(())
+    add_shown(out, &a.compose(b).number())
 }
 
 /// Adds what an orientation makes of a vector.
@@ -72,9 +74,10 @@ pub fn add_applied(out: &mut String, spelled: &str) -> Result<(), CaseFault> {
     let mut row = Row::of(spelled);
     let orient = next_orient(&mut row)?;
     let Point { x, y, z } = row.point()?;
-    let turned = orient.apply([i64::from(x), i64::from(y), i64::from(z)]);
-    writeln!(out, "= {turned:?}")?;
-    Ok(())
+    add_shown(
+        out,
+        &orient.apply([i64::from(x), i64::from(y), i64::from(z)]),
+    )
 }
 
 // The motion of the next four numbers of a row: its orientation's and its shift.
@@ -101,7 +104,7 @@ pub fn add_chain(out: &mut String, spelled: &str) -> Result<(), CaseFault> {
     add_motion(out, "back ", &first.undo())?;
     match first.then(&next) {
         Some(both) => add_motion(out, "both ", &both)?,
-        None => writeln!(out, "= None")?,
+        None => out.push_str("= None\n")?,
     }
     Ok(())
 }
@@ -112,12 +115,12 @@ pub fn add_moved_plane(out: &mut String, spelled: &str) -> Result<(), CaseFault>
     let motion = next_motion(&mut row)?;
     match motion.plane(&row.plane()?) {
         Ok(plane) => {
+            out.push('=')?;
             let [a, b, c] = plane.points();
-            writeln!(
-                out,
-                "= ({} {} {}) ({} {} {}) ({} {} {})",
-                a.x, a.y, a.z, b.x, b.y, b.z, c.x, c.y, c.z
-            )?;
+            add_point(out, a)?;
+            add_point(out, b)?;
+            add_point(out, c)?;
+            out.push('\n')?;
         }
         Err(place) => writeln!(out, "= Err({place})")?,
     }
@@ -127,7 +130,7 @@ pub fn add_moved_plane(out: &mut String, spelled: &str) -> Result<(), CaseFault>
 /// Adds the motion that a text stands for and the text that it is written as, if there is one.
 pub fn add_text(alloc: Global, out: &mut String, text: &[u8]) -> Result<(), CaseFault> {
     let Some(motion) = read_motion(text) else {
-        return Ok(writeln!(out, "= None")?);
+        return Ok(out.push_str("= None\n")?);
     };
     add_motion(out, "", &motion)?;
     let written = write_motion(alloc, &motion)?;

@@ -6,15 +6,13 @@ ghost use Rattle.vertex_edit.specs.Places.{IsSmall};
 
 use crate::brushes::{add_corners, brush};
 use crate::row::{Row, points};
+use crate::shown::add_shown;
+use crate::vertices::add_point;
 use case_text::CaseFault;
 use exact_geom::Point;
 use solid_brush::Solid;
 use std::alloc::{AllocError, Global};
 use vertex_edit::{FromFace, Moved, move_vertices, snap};
-
-fn add_point(out: &mut String, point: Point) -> Result<(), AllocError> {
-    write!(out, " ({} {} {})", point.x, point.y, point.z)
-}
 
 // Adds a facet: the number of the face from which it comes, and its points.
 fn add_facet(out: &mut String, facet: &FromFace) -> Result<(), AllocError> {
@@ -57,7 +55,7 @@ fn add_edit(
 {
     match move_vertices(alloc, a, picks, shift) {
         Ok(moved) => Ok(add_moved(out, &moved)?),
-        Err(fault) => Ok(writeln!(out, "= {fault:?}")?),
+        Err(fault) => add_shown(out, &fault),
     }
 }
 
@@ -92,7 +90,7 @@ fn add_snap(alloc: Global, out: &mut String, a: &Solid, grid: i32) -> Result<(),
 {
     match snap(alloc, a, grid) {
         Ok(moved) => Ok(add_moved(out, &moved)?),
-        Err(fault) => Ok(writeln!(out, "= {fault:?}")?),
+        Err(fault) => add_shown(out, &fault),
     }
 }
 

@@ -1,6 +1,7 @@
 //! Decimals, quotients and divisors.
 
 use crate::row::Row;
+use crate::shown::add_shown;
 use case_text::{CaseFault, add_line};
 use exact_geom::gcd;
 use fixed_num::{
@@ -12,8 +13,7 @@ pub fn add_whole(out: &mut String, word: &[u8], limit: i64) -> Result<(), CaseFa
     if limit < 0 || limit > 1_000_000 {
         return Err(CaseFault::Number);
     }
-    writeln!(out, "= {:?}", read_whole(word, limit))?;
-    Ok(())
+    add_shown(out, &read_whole(word, limit))
 }
 
 // Writes a count of units of so many decimals, where it is below a million and there are such units.
@@ -46,13 +46,12 @@ pub fn add_quotient(out: &mut String, spelled: &str) -> Result<(), CaseFault> {
     if d == 0 || limit <= 0 {
         return Err(CaseFault::Number);
     }
-    writeln!(out, "= {:?}", exact_quotient(n, d, limit))?;
-    Ok(())
+    add_shown(out, &exact_quotient(n, d, limit))
 }
 
 /// Adds the greatest common divisor of two numbers.
 pub fn add_divisor(out: &mut String, spelled: &str) -> Result<(), CaseFault> {
     let mut row = Row::of(spelled);
-    writeln!(out, "= {}", gcd(row.number()?, row.number()?))?;
-    Ok(())
+    let (a, b) = (row.number()?, row.number()?);
+    add_shown(out, &gcd(a, b))
 }

@@ -1,6 +1,7 @@
 //! Planes, their normals and base axes, and the half-spaces that they bound.
 
 use crate::row::Row;
+use crate::shown::add_shown;
 use case_text::CaseFault;
 use exact_geom::same_halfspace;
 use uv_lock::base_axes;
@@ -15,11 +16,10 @@ pub fn add_plane(out: &mut String, spelled: &str) -> Result<(), CaseFault> {
                 plane.normal(),
                 plane.dist()
             )?;
-            writeln!(out, "= axes {:?}", base_axes(&plane))?;
+            Ok(writeln!(out, "= axes {:?}", base_axes(&plane))?)
         }
-        Err(fault) => writeln!(out, "= {fault:?}")?,
+        Err(fault) => add_shown(out, &fault),
     }
-    Ok(())
 }
 
 /// Adds whether two planes bound the same half-space, in both orders, and whether the first one, reversed, does.

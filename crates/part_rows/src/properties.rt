@@ -1,5 +1,6 @@
 //! Properties that rows change.
 
+use crate::shown::add_shown;
 use case_text::{Case, CaseFault, add_bytes, add_line, spelled_bytes};
 use map_nodes::Props;
 use std::alloc::{AllocError, Global};
@@ -25,7 +26,7 @@ fn add_pairs(out: &mut String, props: &Props) -> Result<(), AllocError> {
 fn add_value(out: &mut String, value: Option<&[u8]>) -> Result<(), AllocError> {
     match value {
         Some(value) => add_line(out, "= value ", value),
-        None => writeln!(out, "= None"),
+        None => out.push_str("= None\n"),
     }
 }
 
@@ -42,7 +43,7 @@ fn add_change(
     let value = spelled_bytes(alloc, value)?;
     match what {
         "set" => props.set(alloc, &key, &value)?,
-        "unset" => writeln!(out, "= {}", props.unset(&key))?,
+        "unset" => add_shown(out, &props.unset(&key))?,
         "value" => add_value(out, props.value(&key))?,
         _ => return Err(CaseFault::Line),
     }

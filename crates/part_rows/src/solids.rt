@@ -3,6 +3,7 @@
 ghost use Rattle.part_rows.specs.Numbered.{AreNumbered};
 
 use crate::brushes::{add_tags, has_room};
+use crate::shown::add_shown;
 use crate::sides::sides;
 use crate::vertices::add_parts;
 use case_text::{Case, CaseFault};
@@ -14,7 +15,7 @@ fn add_vertices(out: &mut String, solid: &Solid) -> Result<(), AllocError> {
         if let Some(vertex) = solid.vertex(number) {
             write!(out, "= vertex {number} ")?;
             add_parts(out, &vertex)?;
-            writeln!(out, "")?;
+            out.push('\n')?;
         }
     }
     Ok(())
@@ -28,7 +29,7 @@ fn add_loop(out: &mut String, solid: &Solid, face: u32) -> Result<(), AllocError
             write!(out, " {number}")?;
         }
     }
-    writeln!(out, "")
+    out.push('\n')
 }
 
 fn add_solid(out: &mut String, solid: &Solid) -> Result<(), AllocError> {
@@ -69,7 +70,7 @@ fn add_built(
             let base = base.parse().ok().ok_or(CaseFault::Number)?;
             add_retagged(alloc, solid, base, out)
         }
-        (Err(fault), _) => Ok(writeln!(out, "= {fault:?}")?),
+        (Err(fault), _) => add_shown(out, &fault),
     }
 }
 

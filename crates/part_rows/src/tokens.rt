@@ -1,5 +1,6 @@
 //! Texts, and the tokens that they are cut into.
 
+use crate::shown::add_shown;
 use case_text::{CaseFault, add_bytes};
 use map_lex::{Token, Tokens};
 use std::alloc::AllocError;
@@ -12,7 +13,8 @@ fn add_token(out: &mut String, token: &Token<'_>) -> Result<(), AllocError> {
     let quote = if token.quoted { "\"" } else { "" };
     write!(out, "= {} {quote}", token.line)?;
     add_bytes(out, token.text)?;
-    writeln!(out, "{quote}")
+    out.push_str(quote)?;
+    out.push('\n')
 }
 
 /// Adds the tokens of a text and what stands behind the last one.
@@ -24,8 +26,8 @@ pub fn add_tokens(out: &mut String, text: &[u8]) -> Result<(), CaseFault> {
     for _ in 0..=LONGEST {
         match tokens.next() {
             Ok(Some(token)) => add_token(out, &token)?,
-            Ok(None) => return Ok(writeln!(out, "= end")?),
-            Err(fault) => return Ok(writeln!(out, "= {fault:?}")?),
+            Ok(None) => return Ok(out.push_str("= end\n")?),
+            Err(fault) => return add_shown(out, &fault),
         }
     }
     Ok(())

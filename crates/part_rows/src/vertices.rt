@@ -6,7 +6,7 @@ ghost use Rattle.exact_geom.specs.Rounding.{IsGrid};
 use crate::row::Row;
 use case_text::CaseFault;
 use exact_geom::uncounted::{meet, side};
-use exact_geom::{HVertex, Plane, det_sign, in_world, round, whole};
+use exact_geom::{HVertex, Plane, Point, det_sign, in_world, round, whole};
 use std::alloc::AllocError;
 
 /// Adds a point, as `(0 64 192)/3`.
@@ -17,6 +17,11 @@ pub fn add_parts(out: &mut String, vertex: &HVertex) -> Result<(), AllocError> {
         write!(out, "/{w}")?;
     }
     Ok(())
+}
+
+/// Adds a whole point, as ` (0 64 192)`.
+pub fn add_point(out: &mut String, point: Point) -> Result<(), AllocError> {
+    write!(out, " ({} {} {})", point.x, point.y, point.z)
 }
 
 fn add_on_grid(out: &mut String, vertex: &HVertex, grid: i32) -> Result<(), AllocError>
@@ -44,15 +49,15 @@ fn add_on_grids(out: &mut String, vertex: &HVertex) -> Result<(), AllocError>
 fn add_meeting(out: &mut String, planes: &[Plane; 3], probe: &Plane) -> Result<(), AllocError> {
     let [a, b, c] = planes;
     let Some(vertex) = meet(a, b, c) else {
-        return writeln!(out, "= none");
+        return out.push_str("= none\n");
     };
     write!(out, "= {:?} ", side(probe, &vertex))?;
     add_parts(out, &vertex)?;
-    writeln!(out, "")?;
+    out.push('\n')?;
     if in_world(&vertex) {
         add_on_grids(out, &vertex)
     } else {
-        writeln!(out, "= out of the world")
+        out.push_str("= out of the world\n")
     }
 }
 

@@ -1,5 +1,6 @@
 //! Tables of three words.
 
+use crate::shown::add_shown;
 use case_text::{CaseFault, spelled_bytes};
 use key_table::{Keys, Word};
 use std::alloc::Global;
@@ -21,8 +22,7 @@ pub fn add_three(alloc: Global, out: &mut String, spelled: &str) -> Result<(), C
     ];
     let sought = next_word(alloc, &mut words)?;
     match Keys::of(three) {
-        Some(keys) => writeln!(out, "= {:?}", keys.find(sought.bytes()))?,
-        None => writeln!(out, "= no table")?,
+        Some(keys) => add_shown(out, &keys.find(sought.bytes())),
+        None => Ok(out.push_str("= no table\n")?),
     }
-    Ok(())
 }
