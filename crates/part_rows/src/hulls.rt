@@ -37,40 +37,41 @@ fn add_facets(alloc: Global, out: &mut String, points: &[Point]) -> Result<(), C
     }
 }
 
-// How many facets the points of a row have, if they have a hull.
-fn facet_count(alloc: Global, spelled: &str) -> Result<Option<usize>, CaseFault> {
-    let points = points(alloc, spelled)?;
-    if points.len() > 10_000 || !are_in_range(&points) {
-        return Err(CaseFault::Number);
+// How many facets points have, if they have a hull.
+fn facet_count(alloc: Global, points: &[Point]) -> Option<usize>
+    requires few { length points.now < 2 ^ 32 }
+    requires range { Every (λ p. IsTrue (is_in_range p)) points.now }
+{
+    match hull(alloc, points) {
+        Ok(hull) => Some(hull.facets.list().len()),
+        Err(_) => None,
     }
-    Ok(
-        hull(alloc, &points)
-            .ok()
-            .map(|hull| hull.facets.list().len()),
-    )
 }
 
-// How many facets there are each time, where it is the same so many times.
-fn same_count(alloc: Global, spelled: &str, times: u32) -> Result<Option<usize>, CaseFault> {
-    let count = facet_count(alloc, spelled)?;
+// Adds how many facets there are each time, where it is the same so many times.
+fn add_count(alloc: Global, out: &mut String, points: &[Point], times: u32) -> Result<(), CaseFault>
+    requires few { length points.now < 2 ^ 32 }
+    requires range { Every (λ p. IsTrue (is_in_range p)) points.now }
+{
+    let count = facet_count(alloc, points);
     for _ in 1..times {
-        if facet_count(alloc, spelled)? != count {
+        if facet_count(alloc, points) != count {
             return Err(CaseFault::Number);
         }
     }
-    Ok(count)
+    Ok(writeln!(out, "= {times} times {count:?}")?)
 }
 
 /// Adds the facets of the points of a row, by the places of points, or why they have no hull. Of `5 times` and points it adds how many
 /// facets they have each time.
 pub fn add_hull(alloc: Global, out: &mut String, spelled: &str) -> Result<(), CaseFault> {
-    if let Some((times, spelled)) = spelled.split_once(" times ") {
-        let count = same_count(alloc, spelled, times.parse().ok().ok_or(CaseFault::Number)?)?;
-        return Ok(writeln!(out, "= {times} times {count:?}")?);
-    }
+    let (times, spelled) = spelled.split_once(" times ").unwrap_or(("", spelled));
     let points = points(alloc, spelled)?;
     if points.len() > 10_000 || !are_in_range(&points) {
         return Err(CaseFault::Number);
     }
-    add_facets(alloc, out, &points)
+    match times.parse() {
+        Ok(times) => add_count(alloc, out, &points, times),
+        Err(_) => add_facets(alloc, out, &points),
+    }
 }

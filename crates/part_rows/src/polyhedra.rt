@@ -64,13 +64,21 @@ fn said_of_copies(
     Ok(said)
 }
 
+// Adds the vertex with this number, if there is one.
+fn add_vertex(out: &mut String, poly: &Poly, number: usize) -> Result<(), AllocError> {
+    match poly.vertex(number) {
+        Some(vertex) => {
+            out.push(' ')?;
+            add_parts(out, &vertex)
+        }
+        None => Ok(()),
+    }
+}
+
 fn add_vertices(out: &mut String, poly: &Poly) -> Result<(), AllocError> {
     out.push_str("= vertices:")?;
     for number in 0..poly.vertex_count() {
-        if let Some(vertex) = poly.vertex(number) {
-            out.push(' ')?;
-            add_parts(out, &vertex)?;
-        }
+        add_vertex(out, poly, number)?;
     }
     out.push('\n')
 }
@@ -79,10 +87,8 @@ fn add_vertices(out: &mut String, poly: &Poly) -> Result<(), AllocError> {
 fn add_loop(out: &mut String, poly: &Poly, tag: u32) -> Result<(), AllocError> {
     write!(out, "= face {tag}:")?;
     for place in 0..poly.vertex_count() {
-        let number = poly.loop_vertex(tag, place);
-        if let Some(vertex) = number.and_then(|number| poly.vertex(number)) {
-            out.push(' ')?;
-            add_parts(out, &vertex)?;
+        if let Some(number) = poly.loop_vertex(tag, place) {
+            add_vertex(out, poly, number)?;
         }
     }
     out.push('\n')
