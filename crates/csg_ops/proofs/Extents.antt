@@ -1,11 +1,11 @@
 -- How far a box reaches each way, and its inner box.
-use Rattle.std.proofs.Common.{◌≡◌, List, [], ◌∷◌, ◌++◌, sym, subst, ◌∙◌, arith, true, ℤ, pos, negsuc, neg_ℤ, ◌+ℤ◌, ◌-ℤ◌, ◌*ℤ◌, ◌<ℤ◌, ◌≤ℤ◌}
-use Rattle.std.proofs.lemmas.Int.{ints, by_lt_z}
+use Rattle.std.proofs.Common.{◌≡◌, List, [], ◌∷◌, sym, subst, ◌∙◌, arith, true, ℤ, pos, negsuc, neg_ℤ, ◌+ℤ◌, ◌-ℤ◌, ◌*ℤ◌, ◌<ℤ◌, ◌≤ℤ◌}
+use Rattle.std.proofs.lemmas.Int.{ints}
 use Rattle.algebra.specs.Members.{◌∈◌, here, there, Every}
 use Rattle.algebra.specs.Space.{Vector, Homogeneous, HalfSpace, dot, side}
 use Rattle.algebra.proofs.Expr.{read}
 use Rattle.algebra.proofs.Ring.{ring}
-use Rattle.algebra.proofs.Orders.{negative_of_product, nonpos_of_product, zero_of_product, cancel-le_left, mul-le_left}
+use Rattle.algebra.proofs.Orders.{negative_of_product, nonpos_of_product, zero_of_product, cancel-le_left}
 use Rattle.trim_laws.specs.Solid.{IsIn, IsInside, Bounded}
 use Rattle.trim_laws.specs.Trim.{Bears, Trims, ends, keeps, drops}
 use Rattle.trim_laws.specs.Valid.{Valid}
@@ -14,7 +14,7 @@ use Rattle.solid_laws.proofs.World.{world_bounded}
 use Rattle.half_poly.proofs.Listed.{source, image}
 use Rattle.solid_brush.specs.declared.side.Side.{Side}
 use Rattle.solid_brush.specs.Sides.{bounds, half_spaces, IsSolid}
-use Rattle.csg_ops.specs.Hollows.{is_along_axis, is_box, inward, inner_box}
+use Rattle.csg_ops.specs.Hollows.{is_along_axis, inward, inner_box}
 use Rattle.csg_ops.proofs.MovedPlanes.{Axis, along_x, along_y, along_z, axis_of}
 use Rattle.csg_ops.proofs.Facing.{Faces, forward, backward, both_ways, is_along_x, is_along_y, is_along_z, along_x_by, along_y_by, along_z_by}
 

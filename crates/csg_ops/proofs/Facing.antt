@@ -1,12 +1,12 @@
 -- Sides along a coordinate, and the way in which they face.
-use Rattle.std.proofs.Common.{◌≡◌, List, [], ◌∷◌, ap, sym, subst, ◌∙◌, arith, ◌⊎◌, inl, inr, ⊎_elim, true, ℤ, pos, neg_ℤ, ◌+ℤ◌, ◌-ℤ◌, ◌*ℤ◌, ◌<ℤ◌, ◌≤ℤ◌}
+use Rattle.std.proofs.Common.{◌≡◌, [], ◌∷◌, ap, sym, ◌∙◌, arith, true, ℤ, pos, neg_ℤ, ◌+ℤ◌, ◌-ℤ◌, ◌*ℤ◌, ◌<ℤ◌}
 use Rattle.std.proofs.lemmas.Int.{ints}
 use Rattle.algebra.specs.Space.{Vector, Homogeneous, HalfSpace, dot, side, whole_point}
 use Rattle.algebra.proofs.Expr.{read}
 use Rattle.algebra.proofs.Ring.{ring}
 use Rattle.algebra.proofs.Orders.{positive-neg, by_sign}
 use Rattle.algebra.proofs.Identities.{through-first}
-use Rattle.exact_geom.specs.Planes.{half_space, vector}
+use Rattle.exact_geom.specs.Planes.{vector}
 use Rattle.solid_brush.specs.declared.side.Side.{Side}
 use Rattle.solid_brush.specs.Sides.{bounds}
 use Rattle.csg_ops.specs.Hollows.{is_along_axis, against, inward, inward_point, inward_plane}

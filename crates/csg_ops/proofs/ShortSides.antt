@@ -6,7 +6,7 @@ use Rattle.algebra.specs.Space.{Vector, Homogeneous, HalfSpace, side}
 use Rattle.algebra.proofs.Expr.{read}
 use Rattle.algebra.proofs.Ring.{ring}
 use Rattle.algebra.proofs.Orders.{signs, le_by, lt_by, eq_by_2, negative-mul, cancel-le_left, positive_of_product}
-use Rattle.trim_laws.specs.Solid.{IsIn, IsInside}
+use Rattle.trim_laws.specs.Solid.{IsInside}
 use Rattle.trim_laws.specs.Valid.{HasInside}
 use Rattle.half_poly.proofs.Listed.{source}
 use Rattle.solid_brush.specs.declared.side.Side.{Side}
@@ -15,7 +15,7 @@ use Rattle.solid_brush.specs.Blocks.{IsEmpty}
 use Rattle.csg_ops.specs.Hollows.{is_along_axis, is_box, inward, inner_box, IsThickness, IsShortAlong, HasShortSide}
 use Rattle.csg_ops.specs.Laws.{ThickLaw}
 use Rattle.csg_ops.proofs.Facing.{Faces}
-use Rattle.csg_ops.proofs.Extents.{Reach, below, below_inner, right, left, far, near, up, down, BoxReach, box_reach, each_way}
+use Rattle.csg_ops.proofs.Extents.{Reach, below, below_inner, BoxReach, box_reach, each_way}
 use Rattle.csg_ops.proofs.Hollows.{each_along, axes_of_box, right_in}
 
 -- ---- how long the box is along a coordinate

@@ -1,32 +1,30 @@
 -- The vertices of a box are whole, and tell how long its sides are.
-use Rattle.std.proofs.Common.{◌≡◌, ℕ, ◌*◌, List, [], ◌∷◌, ap, sym, subst, ◌∙◌, arith, ◌⊎◌, inl, inr, ⊎_elim, true, false, Bool, ℤ, pos, neg_ℤ, ◌+ℤ◌, ◌-ℤ◌, ◌*ℤ◌, ◌<ℤ◌, ◌≤ℤ◌, unsigned_abs}
+use Rattle.std.proofs.Common.{◌≡◌, ◌*◌, List, [], ◌∷◌, ap, sym, subst, ◌∙◌, arith, ◌⊎◌, inl, inr, ⊎_elim, true, ℤ, pos, neg_ℤ, ◌+ℤ◌, ◌-ℤ◌, ◌*ℤ◌, ◌<ℤ◌, ◌≤ℤ◌, unsigned_abs}
 use Rattle.std.specs.Int.{◌∣◌}
 use Rattle.std.proofs.Math.Nat.{dvd-mul_left}
 use Rattle.std.proofs.lemmas.Nat.Gcd.{dvd_refl}
 use Rattle.std.proofs.lemmas.Int.{ints, unsigned_abs-mul}
 use Rattle.algebra.specs.Members.{◌∈◌, Every}
-use Rattle.algebra.specs.Space.{Vector, Homogeneous, HalfSpace, SamePoint, dot, cross, det, side, reverse}
-use Rattle.algebra.specs.Fractions.{Fraction≤}
+use Rattle.algebra.specs.Space.{Vector, Homogeneous, HalfSpace, dot, cross, det, side, reverse}
 use Rattle.algebra.proofs.Expr.{read}
 use Rattle.algebra.proofs.Ring.{ring}
-use Rattle.algebra.proofs.Orders.{signs, le_by, eq_by, eq_by_2, eq_by_3, cancel-le_left, by_sign, zero_product, Scaled, nonneg_of_positive}
+use Rattle.algebra.proofs.Orders.{signs, le_by, eq_by, eq_by_2, eq_by_3, cancel-le_left, by_sign, zero_product}
 use Rattle.algebra.proofs.Identities.{with_vector, side-reverse}
 use Rattle.algebra.proofs.Points.{scaled_sides}
 use Rattle.trim_laws.specs.Solid.{IsIn, Bounded}
 use Rattle.vertex_laws.specs.Vertex.{IsVertex}
-use Rattle.vertex_laws.specs.HalfEdge.{IsAmong}
 use Rattle.vertex_laws.proofs.Corner.{corner_below}
 use Rattle.solid_laws.specs.Names.{AreVertices}
 use Rattle.solid_laws.proofs.Holds.{holds_vertices}
 use Rattle.exact_geom.specs.Vertices.{IsReduced}
-use Rattle.half_poly.proofs.Listed.{source, image}
+use Rattle.half_poly.proofs.Listed.{source}
 use Rattle.solid_brush.specs.declared.side.Side.{Side}
 use Rattle.solid_brush.specs.Sides.{bounds, half_spaces, IsSolid}
-use Rattle.csg_ops.specs.Hollows.{is_along_axis, is_box, IsShortAlong, HasShortSide}
+use Rattle.csg_ops.specs.Hollows.{is_along_axis, IsShortAlong}
 use Rattle.csg_ops.specs.Laws.{AreNear, ShortByVertices, ShortByVerticesLaw}
 use Rattle.csg_ops.proofs.Facing.{IsAlong, along_x_by, along_y_by, along_z_by}
-use Rattle.csg_ops.proofs.Extents.{Reach, right, left, far, near, up, down, BoxReach, box_reach, bounded}
-use Rattle.csg_ops.proofs.ShortSides.{span, short_along}
+use Rattle.csg_ops.proofs.Extents.{Reach, right, far, up, BoxReach, box_reach, bounded}
+use Rattle.csg_ops.proofs.ShortSides.{short_along}
 use Rattle.csg_ops.proofs.Hollows.{each_along, axes_of_box}
 
 -- ---- a vertex is as far as any point
