@@ -1,5 +1,5 @@
 -- The command that makes a box, where no group is linked.
-use Rattle.std.proofs.Common.{inl, inr, ◌≡◌, List, [], ◌∷◌, length, map, Bool, true, false, not, cond, ◌&&◌, refl, ap, sym, ◌∙◌, subst, arith, None, ℤ, ◌==◌}
+use Rattle.std.proofs.Common.{inl, inr, ◌≡◌, List, [], ◌∷◌, length, map, true, false, not, cond, ◌&&◌, refl, ap, sym, ◌∙◌, subst, arith, None, ℤ, ◌==◌}
 use Rattle.std.specs.Prelude.{codes, is_none, int_lt}
 use Rattle.std.proofs.lemmas.Bool.{and_parts}
 use Rattle.algebra.specs.Members.{◌∈◌, here, there}

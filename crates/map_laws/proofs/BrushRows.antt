@@ -1,5 +1,5 @@
 -- What the rows tell of the brushes that a command names.
-use Rattle.std.proofs.Common.{◌≡◌, ℕ, ◌≤◌, List, [], ◌∷◌, map, Bool, true, false, not, refl, subst, Option, Some, None, option_map}
+use Rattle.std.proofs.Common.{◌≡◌, ℕ, ◌≤◌, List, [], ◌∷◌, map, true, refl, subst, Option, Some, None, option_map}
 use Rattle.std.specs.Prelude.{nat_lt, unwrap_or, length}
 use Rattle.std.proofs.lemmas.Bool.{ltb-false}
 use Rattle.algebra.specs.Members.{◌∈◌, here, there}

@@ -1,6 +1,6 @@
 -- merge: the first brush becomes the hull of the vertices of all, and the others go.
-use Rattle.std.proofs.Common.{◌≡◌, ℕ, ◌*◌, ◌≤◌, List, [], ◌∷◌, map, flat_map, Bool, true, false, not, cond, ◌&&◌, ◌||◌, refl, ap, sym, subst, arith, Option, None, Some, ℤ, pos, ◌<ℤ◌, unsigned_abs}
-use Rattle.std.specs.List.{list_any, list_all, find}
+use Rattle.std.proofs.Common.{◌≡◌, ℕ, ◌*◌, ◌≤◌, List, [], ◌∷◌, map, flat_map, Bool, true, false, not, cond, ◌&&◌, refl, ap, sym, subst, arith, Option, None, Some, ℤ, pos, ◌<ℤ◌, unsigned_abs}
+use Rattle.std.specs.List.{list_all, find}
 use Rattle.std.specs.Ordering.{int_eq}
 use Rattle.std.proofs.lemmas.Bool.{and_parts}
 use Rattle.std.proofs.lemmas.Bool.Decides.{Decides-int_eq}

@@ -1,5 +1,5 @@
 -- Commands that remake the brushes that they name, one by one: brushes get other faces or go, and new brushes come.
-use Rattle.std.proofs.Common.{◌≡◌, ◌≢◌, ℕ, suc, ◌<◌, ◌≤◌, List, [], ◌∷◌, true, false, cond, ◌==◌, refl, ap, sym, ◌∙◌, subst, arith, Some, option_map, inl, inr, ◌⊎◌}
+use Rattle.std.proofs.Common.{◌≡◌, ◌≢◌, ℕ, ◌<◌, ◌≤◌, List, [], ◌∷◌, true, refl, ap, sym, ◌∙◌, subst, arith, Some, option_map, inl, inr, ◌⊎◌}
 use Rattle.std.specs.Prelude.{unwrap_or}
 use Rattle.std.proofs.lemmas.Bool.{cases_lt}
 use Rattle.algebra.specs.Members.{◌∈◌, here, there}
@@ -12,7 +12,7 @@ use Rattle.map_model.specs.Rows.{named}
 use Rattle.map_model.specs.Shape.{Shape}
 use Rattle.map_laws.specs.Placed.{Bounded}
 use Rattle.map_laws.specs.Unlinked.{Unlinked}
-use Rattle.map_laws.proofs.Lists.{by_eq, tally, tally-head, member-tally, member-flat}
+use Rattle.map_laws.proofs.Lists.{by_eq, tally, member-flat}
 use Rattle.map_laws.proofs.Beneath.{Beneath}
 use Rattle.map_laws.proofs.Forest.{not_none}
 use Rattle.map_laws.proofs.Skeleton.{kind_at, planted, kind_is, is_kind_by, placed_of}
