@@ -12,9 +12,11 @@ pub meet-requires : goal.meet-requires
 meet-requires c = record { tags = subst (λ s. HaveTags (c.loop-k.block ++ s)) (sym c.sides.ensures.sides) (next_tags c.args.list.now c.loop-k.k c.index-list-k.result c.loop-k-test.true c.index-list-k.is c.loop-k.block c.loop-k.invariant.0 c.requires.tags) }
 
 pub loop-k-preserved : goal.loop-k-preserved
-loop-k-preserved c = (next_trimmed c.args.list.now c.loop-k.k c.index-list-k.result c.loop-k-test.true c.index-list-k.is c.loop-k.block c.loop-k.invariant.0 c.in-Some.met
-    (subst (IsLeft ((all_sides (take c.loop-k.k c.args.list.now)) ++ c.index-list-k.result)) c.in-Some.is (subst (λ s. IsLeft ((all_sides (take c.loop-k.k c.args.list.now)) ++ s) c.in_ok-met.field-0) c.sides.ensures.sides (c.in_ok-met.ensures.further (all_sides (take c.loop-k.k c.args.list.now)) c.loop-k.invariant.0))),
-  next_counted c.args.list.now c.loop-k.k c.index-list-k.result c.loop-k-test.true c.index-list-k.is c.sides.ensures.solid c.loop-k.invariant.1)
+loop-k-preserved c = (
+  next_trimmed c.args.list.now c.loop-k.k c.index-list-k.result c.loop-k-test.true c.index-list-k.is c.loop-k.block c.loop-k.invariant.0 c.in-Some.met
+      (subst (IsLeft ((all_sides (take c.loop-k.k c.args.list.now)) ++ c.index-list-k.result)) c.in-Some.is (subst (λ s. IsLeft ((all_sides (take c.loop-k.k c.args.list.now)) ++ s) c.in_ok-met.field-0) c.sides.ensures.sides (c.in_ok-met.ensures.further (all_sides (take c.loop-k.k c.args.list.now)) c.loop-k.invariant.0))),
+  next_counted c.args.list.now c.loop-k.k c.index-list-k.result c.loop-k-test.true c.index-list-k.is c.sides.ensures.solid c.loop-k.invariant.1,
+)
 
 pub overflow_cast-result : goal.overflow_cast-result
 overflow_cast-result c = let f = at_most_all c.args.list.now c.loop-k.k c.index-list-k.result c.loop-k-test.true c.index-list-k.is c.sides.ensures.solid c.requires.tags c.loop-k.invariant.1 in search rules
