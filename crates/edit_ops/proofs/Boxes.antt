@@ -22,7 +22,7 @@ use Rattle.tree_ops.specs.declared.fault.OpFault.{OpFault}
 use Rattle.tree_ops.specs.declared.fault.OpFault.TheVariants.{No, Memory}
 use Rattle.tree_ops.proofs.Outcomes.{err_is}
 use Rattle.edit_ops.specs.Walls.{IsNear, range_from, AreWalls}
-use Rattle.edit_ops.specs.Bodies.{AreNeeded, IsBodyOf}
+use Rattle.brush_plans.specs.Bodies.{AreNeeded, IsBodyOf}
 use Rattle.edit_ops.specs.Boxes.{box_faces, RowsSay, IsBox}
 
 -- The half-spaces of a box. ------------------------------------------------------------------------------------------------------

@@ -9,8 +9,9 @@ use Rattle.map_model.specs.Rows.{first}
 use Rattle.tree_ops.specs.Passing.{passes}
 use Rattle.tree_ops.specs.declared.fault.OpFault.{OpFault}
 use Rattle.tree_ops.specs.declared.fault.OpFault.TheVariants.{No}
-use Rattle.edit_ops.specs.Moving.{Says, points_row, world_row, offsets_row, origins_row, motion_rows}
-use Rattle.edit_ops.proofs.RowLoops.{no_row, that_row, first_behind, first_stops, says_stop, says_err}
+use Rattle.brush_plans.specs.Saying.{Says}
+use Rattle.edit_ops.specs.Moving.{points_row, world_row, offsets_row, origins_row, motion_rows}
+use Rattle.brush_plans.proofs.RowLoops.{no_row, that_row, first_behind, first_stops, says_stop, says_err}
 
 module _ (lock : Bool) (r : Motion) (m : Whole) (ns : List ℕ) where
   abbrev all_four : Below → Option Refusal

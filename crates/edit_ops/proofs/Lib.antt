@@ -1,13 +1,7 @@
 pub mod SixWalls
-pub mod Plain
-pub mod Sides
 pub mod Boxes
-pub mod Numbers
 pub mod Outcomes
 pub mod WhichCommand
-pub mod Lists
-pub mod RowLoops
-pub mod FiveRows
 pub mod FourRows
 pub mod FaceLoops
 pub mod OneFace
@@ -16,5 +10,13 @@ pub mod Worlds
 pub mod ThreeCounts
 pub mod Origins
 pub mod Renewals
+pub mod MovingRefusals
 pub mod MovingOutcomes
+pub mod CopiesOneByOne
+pub mod CopyOutcomes
+pub mod CopySteps
+pub mod ChangedFaces
+pub mod TexOutcomes
+pub mod FaceRows
 pub mod Shifts
+pub mod WaysBack

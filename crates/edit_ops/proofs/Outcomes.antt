@@ -19,8 +19,9 @@ use Rattle.tree_node.specs.Held.{IsMap}
 use Rattle.tree_ops.specs.Faults.{RefusesRightly}
 use Rattle.tree_ops.specs.declared.fault.OpFault.{OpFault}
 use Rattle.tree_ops.specs.declared.fault.OpFault.TheVariants.{No, Memory}
-use Rattle.edit_ops.specs.Boxes.{box_faces, box_rows, RowsSay, IsBox, Puts, IsPut}
-use Rattle.edit_ops.proofs.Numbers.{numbers_fit, numbers_end}
+use Rattle.brush_plans.specs.NewBrush.{Puts, IsPut}
+use Rattle.edit_ops.specs.Boxes.{box_faces, box_rows, RowsSay, IsBox}
+use Rattle.brush_plans.proofs.Numbers.{numbers_fit, numbers_end}
 
 module _ (s : Settings) (m : Whole) (x y : List ℤ) (material : KeepsMaterial s) (good : IsGood (Box x y)) (map : IsMap m) where
   applied : (b : Below) → IsRight b → (r : Option Refusal) → first (box_rows b s m x y) ≡ r → apply b s m (Box x y) ≡ unless r (finish_unlinked m (Box x y) (own b s m (Box x y)))

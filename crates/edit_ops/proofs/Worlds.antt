@@ -22,7 +22,8 @@ use Rattle.map_model.specs.Rows.{refuse}
 use Rattle.map_laws.proofs.MovingCommands.{no_refusal, none_by, no_place}
 use Rattle.tree_node.specs.Held.{IsMap}
 use Rattle.tree_ops.specs.declared.fault.OpFault.TheVariants.{No}
-use Rattle.edit_ops.specs.Moving.{Says, moved_spaces, points_of, world_of}
+use Rattle.brush_plans.specs.Saying.{Says}
+use Rattle.edit_ops.specs.Moving.{moved_spaces, points_of, world_of}
 use Rattle.edit_ops.proofs.MovedSolids.{spaces_are}
 
 -- Where no face goes beyond the range of points, the points of each stay in range.

@@ -1,8 +1,13 @@
 -- The commands of this crate.
 use Rattle.std.specs.Prelude.{Bool, true, false}
-use Rattle.map_model.specs.Commands.{Command, Box, Move}
+use Rattle.map_model.specs.Commands.{Command, Box, Copy, Move, Turn, Flip, Clip, Tex}
 
 abbrev pub is_edit_command : Command → Bool
 is_edit_command (Box x y) = true
+is_edit_command (Copy shift ns) = true
 is_edit_command (Move shift ns) = true
+is_edit_command (Turn axis quarters about ns) = true
+is_edit_command (Flip axis place ns) = true
+is_edit_command (Clip part plane ns) = true
+is_edit_command (Tex n face name off rotation scale surface) = true
 is_edit_command c = false

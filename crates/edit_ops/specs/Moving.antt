@@ -1,23 +1,19 @@
 -- Nodes that a motion moves: what each row says of one node, and what is asked of a node before it is moved.
-use Rattle.std.specs.Prelude.{◌≡◌, ℕ, Bool, true, false, cond, not, ◌||◌, ◌==◌, nat_lt, List, [], ◌∷◌, map, count_by, Option, None, Some, is_none, option_map, unwrap_or, Result, Ok, Err}
-use Rattle.std.specs.List.{list_any}
+use Rattle.std.specs.Prelude.{◌≡◌, ℕ, Bool, true, false, cond, List, [], ◌∷◌, map, Option, None, Some, option_map, unwrap_or}
 use Rattle.algebra.specs.Members.{◌∈◌}
 use Rattle.algebra.specs.Space.{HalfSpace}
 use Rattle.exact_geom.specs.Planes.{half_space, first_out_of_range}
 use Rattle.trim_laws.specs.Valid.{Valid}
 use Rattle.map_model.specs.Faces.{Face}
 use Rattle.map_model.specs.Motions.{Motion, moved_plane}
-use Rattle.map_model.specs.Tree.{Whole, Node, Entity, Brush, at, lies_beneath}
+use Rattle.map_model.specs.Tree.{Whole, Node, Entity, Brush, at}
 use Rattle.map_model.specs.Shape.{half_spaces}
-use Rattle.map_model.specs.Below.{Below, IsRight}
+use Rattle.map_model.specs.Below.{Below}
 use Rattle.map_model.specs.Commands.{Command, Move, Turn, Flip}
-use Rattle.map_model.specs.Replies.{kept, Refusal, NoNode, Repeated, WrongKind, NestedIds, LockedLayer, OutOfWorld, LockOffset, Origin}
-use Rattle.map_model.specs.Rows.{refuse, at_each, at_each_face_from, beyond, is_movable, kind_passes, is_in_frozen}
+use Rattle.map_model.specs.Replies.{kept, Refusal, OutOfWorld, LockOffset, Origin}
+use Rattle.map_model.specs.Rows.{refuse, at_each, at_each_face_from, beyond}
 use Rattle.map_model.specs.Carry.{carry, lost_offset}
 use Rattle.map_model.specs.Origins.{is_origin_stuck}
-use Rattle.tree_ops.specs.Passing.{is_place_beneath_it}
-use Rattle.tree_ops.specs.declared.fault.OpFault.{OpFault}
-use Rattle.tree_ops.specs.declared.fault.OpFault.TheVariants.{No, Memory}
 
 -- Commands. ---------------------------------------------------------------------------------------------------------------------------
 
@@ -33,21 +29,6 @@ is_move (Move shift ns) = true
 is_move c = false
 
 -- Rows. -------------------------------------------------------------------------------------------------------------------------------
-
--- What rows that ask for the points of solids answer, by whatever right tests. Want of memory says nothing.
-abbrev pub Says : (Below → Option Refusal) → Result (Unit {0}) OpFault → Type 0
-Says row (Ok passed) = (b : Below) → IsRight b → row b ≡ None
-Says row (Err (No refusal)) = (b : Below) → IsRight b → row b ≡ Some refusal
-Says row (Err Memory) = Unit {0}
-
--- The rows on the nodes that are named.
-abbrev pub node_rows : Whole → List ℕ → List (Option Refusal)
-node_rows m ns =
-    at_each ns (λ n. refuse (is_none (at m n)) (NoNode n))
-    ∷ at_each ns (λ n. refuse (nat_lt 1 (count_by (λ k. k == n) ns)) (Repeated n))
-    ∷ at_each ns (λ n. refuse (not (kind_passes m is_movable n)) (WrongKind n))
-    ∷ at_each ns (λ n. refuse (list_any (lies_beneath m n) ns || is_place_beneath_it m None n) (NestedIds n))
-    ∷ at_each ns (λ n. refuse (is_in_frozen m n) (LockedLayer n)) ∷ []
 
 -- A face goes beyond the range of points.
 abbrev pub points_of : Motion → ℕ → Option Node → Option Refusal

@@ -8,16 +8,15 @@ ghost use Rattle.map_model.specs.Commands.{Box, IsGood, point_in};
 ghost use Rattle.map_model.specs.Promises.{Plans};
 ghost use Rattle.tree_node.specs.Held.{IsMap};
 ghost use Rattle.tree_ops.specs.Faults.{RefusesRightly};
-ghost use Rattle.edit_ops.specs.Boxes.{IsBox, IsPut};
+ghost use Rattle.edit_ops.specs.Boxes.{IsBox};
 
-use crate::bodies::body_of;
-use crate::plain_faces::plain_faces;
 use crate::walls::{box_planes, is_below_each};
-use cmd_text::{Refusal, Reply};
+use brush_plans::{body_of, plain_faces, put_brush};
+use cmd_text::Refusal;
 use exact_geom::Point;
-use map_nodes::{Body, Node, NodeId};
+use map_nodes::Body;
 use std::alloc::Global;
-use tree_node::{Change, Map};
+use tree_node::Map;
 use tree_ops::{OpFault, Planned, Settings};
 
 /// Plans `box`: a brush with plain fields, between two corners, at the end of the world's brushes.
@@ -67,28 +66,4 @@ fn corner(numbers: [i32; 3]) -> Point
 {
     let [x, y, z] = numbers;
     Point { x, y, z }
-}
-
-// A brush at the end of the world's brushes.
-fn put_brush(alloc: Global, map: &Map, body: Body) -> Result<Planned, OpFault>
-    ensures { IsPut (whole map.now) body result }
-{
-    let mut change = Change::new(alloc, map);
-    change.room(1)?;
-    change.put_last(
-        alloc,
-        map,
-        NodeId(0),
-        Node::Brush {
-            parent: NodeId(0),
-            mark: None,
-            body,
-        },
-    )?;
-    change.tighten(map);
-    let reply = Reply::Made {
-        count: 1,
-        first: map.next(),
-    };
-    Ok(Planned { change, reply })
 }

@@ -10,8 +10,11 @@ ghost use Rattle.tree_ops.specs.Faults.{RefusesRightly};
 ghost use Rattle.edit_ops.specs.EditCommands.{is_edit_command};
 
 use crate::boxing::plan_box;
-use crate::moving::plan_move;
+use crate::copying::plan_copy;
+use crate::moving::plan_moving;
+use crate::texturing::plan_tex;
 use cmd_text::Command;
+use map_nodes::NodeId;
 use std::alloc::Global;
 use tree_node::Map;
 use tree_ops::{OpFault, Planned, Settings};
@@ -20,11 +23,20 @@ use tree_ops::{OpFault, Planned, Settings};
 pub fn is_edit_command(c: &Command) -> bool
     ensures { result ≡ is_edit_command c.now }
 {
-    matches!(c, Command::Box { .. } | Command::Move { .. })
+    matches!(
+        c,
+        Command::Box { .. }
+            | Command::Copy { .. }
+            | Command::Move { .. }
+            | Command::Turn { .. }
+            | Command::Flip { .. }
+            | Command::Clip { .. }
+            | Command::Tex { .. }
+    )
 }
 
 /// Plans a command of this crate: the first refusal of the one order, or a change that names exactly the nodes that differ,
-/// with the reply. The map after the change is one again. The command is one of this crate, as a line of a script reads.
+/// with the reply. The map after the change is one again. The command is one of this crate, such as a line of a script gives.
 /// Nothing is said where there is no memory for it.
 pub fn edit(alloc: Global, map: &Map, set: &Settings, c: &Command) -> Result<Planned, OpFault>
     requires own { IsTrue (is_edit_command c.now) }
@@ -35,7 +47,12 @@ pub fn edit(alloc: Global, map: &Map, set: &Settings, c: &Command) -> Result<Pla
 {
     match c {
         Command::Box { a, b } => plan_box(alloc, map, set, *a, *b),
-        Command::Move { .. } => plan_move(alloc, map, set, c),
+        Command::Copy { .. } => plan_copy(alloc, map, set, c),
+        Command::Move { .. } => plan_moving(alloc, map, set, c),
+        Command::Turn { .. } => plan_moving(alloc, map, set, c),
+        Command::Flip { .. } => plan_moving(alloc, map, set, c),
+        Command::Clip { .. } => cut_plans::edit(alloc, map, set, c),
+        Command::Tex { node, face, .. } => plan_tex(alloc, map, set, c, NodeId(*node), *face),
         _ => unreachable!(),
     }
 }

@@ -5,7 +5,8 @@ ghost use Rattle.map_model.specs.Motions.{is_signed_permutation};
 ghost use Rattle.map_model.specs.Tree.{whole, at};
 ghost use Rattle.map_model.specs.Rows.{first};
 ghost use Rattle.tree_ops.specs.Passing.{passes};
-ghost use Rattle.edit_ops.specs.Moving.{Says, points_of, world_of, offsets_of, origin_of, points_row, world_row, offsets_row, origins_row, motion_rows};
+ghost use Rattle.brush_plans.specs.Saying.{Says};
+ghost use Rattle.edit_ops.specs.Moving.{points_of, world_of, offsets_of, origin_of, points_row, world_row, offsets_row, origins_row, motion_rows};
 
 use crate::faces::{beyond, lost};
 use crate::places::is_stuck;

@@ -3,62 +3,47 @@
 ghost use Rattle.std.specs.Prelude.{◌≡◌, flat_map, IsTrue, IfOk, IfErr};
 ghost use Rattle.map_model.specs.Tree.{whole, preorder};
 ghost use Rattle.map_model.specs.Edits.{swap};
-ghost use Rattle.map_model.specs.Commands.{IsGood, vector_in};
-ghost use Rattle.map_model.specs.Motions.{shifting, is_signed_permutation};
+ghost use Rattle.map_model.specs.Commands.{IsGood};
+ghost use Rattle.map_model.specs.Motions.{is_signed_permutation};
 ghost use Rattle.map_model.specs.Rows.{named, motion_of};
 ghost use Rattle.map_model.specs.Promises.{Plans};
-ghost use Rattle.orient48.specs.Motions.{is_short};
 ghost use Rattle.tree_node.specs.Held.{IsMap, changed};
 ghost use Rattle.tree_ops.specs.Faults.{RefusesRightly};
-ghost use Rattle.edit_ops.specs.Moving.{is_move, is_motion};
+ghost use Rattle.edit_ops.specs.Moving.{is_motion};
 
 use crate::motion_rows::refuse_motion;
+use crate::motions::{is_rigid, motion_of, nodes_of};
 use crate::moving_nodes::move_nodes;
-use crate::node_rows::refuse_nodes;
+use brush_plans::refuse_nodes;
 use cmd_text::{Command, Reply};
 use map_nodes::NodeId;
-use orient48::{Motion, Orient};
+use orient48::Motion;
 use std::alloc::{AllocError, Global};
 use tree_node::{Change, Map};
 use tree_ops::{OpFault, Planned, Settings, ids};
 
-/// Plans `move`: the first refusal of the one order, or a change that names exactly the nodes that differ, with the reply. The
-/// map after the change is one again. Nothing is said where there is no memory for it.
-pub(crate) fn plan_move(
+/// Plans `move`, `turn` and `flip`: the first refusal of the one order, or a change that names exactly the nodes that differ,
+/// with the reply. The map after the change is one again. Nothing is said where there is no memory for it.
+pub(crate) fn plan_moving(
     alloc: Global,
     map: &Map,
     set: &Settings,
     c: &Command,
 ) -> Result<Planned, OpFault>
-    requires own { IsTrue (is_move c.now) }
+    requires own { IsTrue (is_motion c.now) }
     requires good { IsGood c.now }
     ensures planned { IfOk result (λ p. Plans set.now (whole map.now) c.now p.change p.reply) }
     ensures sound { IfOk result (λ p. IsMap (swap (whole map.now) p.change)) }
     ensures refused { IfErr result (RefusesRightly set.now (whole map.now) c.now) }
 {
-    match c {
-        Command::Move { shift, nodes } => {
-            let ids = ids(alloc, nodes)?;
-            let motion = shifting(*shift);
-            plan_motion(alloc, map, set, c, &motion, &ids)
-        }
-        _ => unreachable!(),
-    }
+    let motion = motion_of(c);
+    let ids = ids(alloc, nodes_of(c))?;
+    is_rigid(&motion);
+    plan_motion(alloc, map, set, c, &motion, &ids)
 }
 
-// The motion by a shift.
-fn shifting(shift: [i32; 3]) -> Motion
-    requires { IsTrue (is_short (vector_in shift)) }
-    ensures { result ≡ shifting (vector_in shift) }
-{
-    let Some(motion) = Motion::of(Orient::identity(), shift) else {
-        unreachable!()
-    };
-    motion
-}
-
-/// Plans a command that moves nodes as they stand, with all beneath them, by its motion.
-pub(crate) fn plan_motion(
+// Plans such a command by its motion and the nodes that it names.
+fn plan_motion(
     alloc: Global,
     map: &Map,
     set: &Settings,
@@ -87,8 +72,8 @@ pub(crate) fn plan_motion(
     Ok(Planned { change, reply })
 }
 
-// The nodes with all beneath them, in preorder.
-fn all_beneath(
+/// The nodes with all beneath them, in preorder.
+pub(crate) fn all_beneath(
     alloc: Global,
     map: &Map,
     change: &Change,

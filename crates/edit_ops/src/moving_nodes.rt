@@ -60,8 +60,8 @@ fn move_node(
     Ok(())
 }
 
-// The node where the motion takes it, or nothing where it stays as it is.
-fn moved(
+/// The node where the motion takes it, or nothing where it stays as it is.
+pub(crate) fn moved(
     alloc: Global,
     motion: &Motion,
     lock: bool,

@@ -6,10 +6,9 @@ ghost use Rattle.orient48.specs.Motions.{vector_at};
 ghost use Rattle.map_model.specs.Origins.{in_range, three_counts, read_origin, moved_counts, written_origin, moved_origin, is_origin_stuck};
 ghost use Rattle.edit_ops.specs.Places.{counts_of, small, count_in};
 
-use crate::words::first_word;
 use fixed_num::{Micro, MicroFault, NumBuf, Text, read_micro, write_micro};
 use map_nodes::Props;
-use orient48::Motion;
+use orient48::{Motion, first_word};
 use std::alloc::{AllocError, Global};
 
 /// Counts of millionths are below this in size.

@@ -49,39 +49,39 @@ new_copy b lock r format (Brush a c faces) right p h can = record { ok = node_mo
 -- One after another. -----------------------------------------------------------------------------------------------------------------
 
 -- The map k, which came from m by copies of some of the nodes.
-record AfterCopies (m : Whole) (all : List ℕ) (k : Whole) : Type 0 where
-  placed : Placed k
-  comes : Comes (format_of m) m k
-  full : NoEmptyGroup k
-  kinds : (q : ℕ) → q < m.next → kind_at k q ≡ kind_at m q
-  ups : (q : ℕ) → q < m.next → up k q ≡ up m q
-  nodes : (q : ℕ) → q < m.next → ((n : ℕ) → n ∈ all → up m n ≡ Some q → ⊥) → at k q ≡ at m q
+pub record AfterCopies (m : Whole) (all : List ℕ) (k : Whole) : Type 0 where
+  pub placed : Placed k
+  pub comes : Comes (format_of m) m k
+  pub full : NoEmptyGroup k
+  pub kinds : (q : ℕ) → q < m.next → kind_at k q ≡ kind_at m q
+  pub ups : (q : ℕ) → q < m.next → up k q ≡ up m q
+  pub nodes : (q : ℕ) → q < m.next → ((n : ℕ) → n ∈ all → up m n ≡ Some q → ⊥) → at k q ≡ at m q
 
 module _ (b : Below) (lock : Bool) (r : Motion) (m : Whole) (all : List ℕ) (right : IsRight b) (p : is_signed_permutation r.matrix ≡ true) (shape : Shape m)
     (kinds : (n : ℕ) → n ∈ all → (k : Kind) × (kind_at m n ≡ Some k) × (says_parent k ≡ true))
     (apart : (x y : ℕ) → x ∈ all → y ∈ all → Beneath (up m) x y → x ≡ y)
     (can : (q : ℕ) (x : Node) → q ∈ flat_map (preorder m) all → at m q ≡ Some x → CanBeMoved b lock r x) where
-  placed : Placed m
+  pub placed : Placed m
   placed = placed_of shape.standing
 
   bound : Bounded m
   bound = shape.numbers.nodes
 
-  c : Chains m
+  pub c : Chains m
   c = chains m (planted placed) bound
 
   below : (q : ℕ) (k : Kind) → kind_at m q ≡ Some k → q < m.next
   below q k e = elim (cases_lt q m.next) [ inl lt ↦ lt | inr far ↦ absurd (not_none e (no_slot (at m q) (bound q far))) ]
 
-  rooted : (n : ℕ) → n ∈ all → Beneath (up m) 0 n
+  pub rooted : (n : ℕ) → n ∈ all → Beneath (up m) 0 n
   rooted n i = let k = kinds n i in (planted placed).rooted n k.0 k.1
 
-  live : (n q : ℕ) → n ∈ all → Beneath (up m) n q → q < m.next
+  pub live : (n q : ℕ) → n ∈ all → Beneath (up m) n q → q < m.next
   live n q i itself = let k = kinds n i in below n k.0 k.1
   live n q i (under t s e w) = let k = slot_live m q s e in below q k.0 k.1
 
   -- No parent of a named node stands beneath one.
-  no_parent : (n q : ℕ) → n ∈ all → Beneath (up m) n q → (a : ℕ) → a ∈ all → up m a ≡ Some q → ⊥
+  pub no_parent : (n q : ℕ) → n ∈ all → Beneath (up m) n q → (a : ℕ) → a ∈ all → up m a ≡ Some q → ⊥
   no_parent n q i w a j e =
       no_circle (planted placed).top (parent_rooted c q (rooted a j) e) e (subst (λ z. Beneath (up m) z q) (apart n a i j (under a q e w)) w)
 
@@ -138,7 +138,7 @@ module _ (b : Below) (lock : Bool) (r : Motion) (m : Whole) (all : List ℕ) (ri
           let was : at m q ≡ Some x = sym (s.nodes q (live n q i v) (no_parent n q i v)) ∙ e in
           new_copy b lock r (format_of m) x right p (shape.each_node q x was) (can q x (member-flat (preorder m) q n all i (in_preorder c n (rooted n i) v)) was)
 
-  copies_all : (ns : List ℕ) → ((n : ℕ) → n ∈ ns → n ∈ all) → (k : Whole) → AfterCopies m all k → AfterCopies m all (each_in_turn (λ n k. copy_last (unwrap_or (up k n) 0) (copied_node lock r) n k) ns k)
+  pub copies_all : (ns : List ℕ) → ((n : ℕ) → n ∈ ns → n ∈ all) → (k : Whole) → AfterCopies m all k → AfterCopies m all (each_in_turn (λ n k. copy_last (unwrap_or (up k n) 0) (copied_node lock r) n k) ns k)
   copies_all [] sub k s = s
   copies_all (n ∷ ns) sub k s = copies_all ns (λ x i. sub x (there i)) (copy_last (unwrap_or (up k n) 0) (copied_node lock r) n k) (copies_one k s n (sub n here))
 
@@ -149,18 +149,25 @@ module _ (b : Below) (lock : Bool) (r : Motion) (m : Whole) (all : List ℕ) (ri
     empties = λ g is none. absurd (subst NoEmptyGroup (sym same) s.full g is none);
   }
 
+  -- No copy is made yet.
+  pub begins : AfterCopies m all m
+  begins = record {
+    placed = placed;
+    comes = comes_itself (format_of m) m bound;
+    full = shape.standing.no_empty_group;
+    kinds = λ q lt. refl;
+    ups = λ q lt. refl;
+    nodes = λ q lt none. refl;
+  }
+
+  -- No node has lost its last child.
+  pub nothing_pruned : (command : Command) (k : Whole) → AfterCopies m all k → prune m command k ≡ k
+  nothing_pruned command k s = prune_none m command k (λ n. not_emptied m k n (λ had j e.
+      let x = child_of m placed n had in
+      some_child k s.placed n x.0 (s.ups x.0 (below x.0 (slot_live m x.0 n x.1).0 (slot_live m x.0 n x.1).1) ∙ x.1)))
+
   pub copies_outcome : (command : Command) → Unlinked m → Outcome m command (each_in_turn (λ n k. copy_last (unwrap_or (up k n) 0) (copied_node lock r) n k) all m)
   copies_outcome command u =
       let k = each_in_turn (λ n k. copy_last (unwrap_or (up k n) 0) (copied_node lock r) n k) all m in
-      let s = copies_all all (λ x i. i) m (record {
-        placed = placed;
-        comes = comes_itself (format_of m) m bound;
-        full = shape.standing.no_empty_group;
-        kinds = λ q lt. refl;
-        ups = λ q lt. refl;
-        nodes = λ q lt none. refl;
-      }) in
-      let same : prune m command k ≡ k = prune_none m command k (λ n. not_emptied m k n (λ had j e.
-      let x = child_of m placed n had in
-      some_child k s.placed n x.0 (s.ups x.0 (below x.0 (slot_live m x.0 n x.1).0 (slot_live m x.0 n x.1).1) ∙ x.1))) in
-      outcome_of m command k shape u (subst_pruned command k same s)
+      let s = copies_all all (λ x i. i) m begins in
+      outcome_of m command k shape u (subst_pruned command k (nothing_pruned command k s) s)

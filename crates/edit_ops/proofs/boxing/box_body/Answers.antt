@@ -5,7 +5,7 @@ use Rattle.map_model.specs.Rows.{plain_face}
 use Rattle.map_laws.proofs.BoxCommand.{near}
 use Rattle.tree_ops.specs.declared.fault.OpFault.TheVariants.{No}
 use Rattle.edit_ops.specs.Walls.{IsNear}
-use Rattle.edit_ops.specs.Bodies.{AreNeeded}
+use Rattle.brush_plans.specs.Bodies.{AreNeeded}
 use Rattle.edit_ops.proofs.Boxes.{is_below, box_needed, walls_of, below_of, beyond_range, not_below, body_is_box, handed_on}
 use Rattle.edit_ops.proofs.boxing.box_body.Goals as goal
 

@@ -1,6 +1,6 @@
 use Rattle.std.proofs.Common.{◌∙◌}
 use Rattle.edit_ops.specs.Moving.{carried}
-use Rattle.edit_ops.proofs.Lists.{is_member, mapped_more, mapped_all}
+use Rattle.brush_plans.proofs.Lists.{is_member, mapped_more, mapped_all}
 use Rattle.edit_ops.proofs.faces.carried_faces.Goals as goal
 
 pub carried_face-requires-clause-in_range : goal.carried_face-requires-clause-in_range

@@ -2,7 +2,7 @@ use Rattle.std.proofs.Common.{sym, ◌∙◌}
 use Rattle.map_model.specs.Tree.{whole, at}
 use Rattle.tree_ops.proofs.Outcomes.{err_is}
 use Rattle.edit_ops.specs.Moving.{points_of}
-use Rattle.edit_ops.proofs.RowLoops.{stops, goes_on, all_pass}
+use Rattle.brush_plans.proofs.RowLoops.{stops, goes_on, all_pass}
 use Rattle.edit_ops.proofs.motion_rows.points.Goals as goal
 
 pub loop-id-preserved : goal.loop-id-preserved

@@ -1,6 +1,6 @@
 use Rattle.map_model.specs.Tree.{whole, at}
 use Rattle.edit_ops.specs.Moving.{points_of}
-use Rattle.edit_ops.proofs.RowLoops.{Passed}
+use Rattle.brush_plans.proofs.RowLoops.{Passed}
 use Rattle.edit_ops.proofs.motion_rows.points.Given as goal
 
 abbrev pub invariant-loop-id : goal.invariant-loop-id

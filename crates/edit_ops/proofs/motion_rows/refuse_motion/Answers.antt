@@ -1,7 +1,7 @@
 use Rattle.std.proofs.Common.{sym, ◌∙◌}
 use Rattle.map_model.specs.Tree.{whole}
 use Rattle.edit_ops.specs.Moving.{points_row}
-use Rattle.edit_ops.proofs.RowLoops.{no_row}
+use Rattle.brush_plans.proofs.RowLoops.{no_row}
 use Rattle.edit_ops.proofs.FourRows.{stops_points, stops_world, stops_offsets, stops_origins, passes_all}
 use Rattle.edit_ops.proofs.motion_rows.refuse_motion.Goals as goal
 

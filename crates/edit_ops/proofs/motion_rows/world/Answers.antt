@@ -2,8 +2,8 @@ use Rattle.std.proofs.Common.{refl}
 use Rattle.map_model.specs.Tree.{whole, at}
 use Rattle.map_laws.proofs.Refused.{each_none}
 use Rattle.edit_ops.specs.Moving.{points_of, world_of, world_row}
-use Rattle.edit_ops.proofs.Lists.{is_member}
-use Rattle.edit_ops.proofs.RowLoops.{passed_row, stopped_row, passed_all, says_stop, says_err}
+use Rattle.brush_plans.proofs.Lists.{is_member}
+use Rattle.brush_plans.proofs.RowLoops.{passed_row, stopped_row, passed_all, says_stop, says_err}
 use Rattle.edit_ops.proofs.motion_rows.world.Goals as goal
 
 pub world_of-requires-clause-points : goal.world_of-requires-clause-points

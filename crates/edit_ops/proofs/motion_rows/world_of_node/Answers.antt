@@ -2,13 +2,14 @@ use Rattle.std.proofs.Common.{ap, sym, subst, ◌∙◌, Some, Err}
 use Rattle.map_model.specs.Tree.{whole, at}
 use Rattle.map_model.specs.Replies.{OutOfWorld}
 use Rattle.tree_ops.specs.declared.fault.OpFault.TheVariants.{No}
-use Rattle.edit_ops.specs.Moving.{Says, world_of}
+use Rattle.brush_plans.specs.Saying.{Says}
+use Rattle.edit_ops.specs.Moving.{world_of}
 use Rattle.edit_ops.proofs.Worlds.{faces_in_range, world_stays, world_leaves}
 use Rattle.edit_ops.proofs.motion_rows.world_of_node.Goals as goal
 
-pub leaves_world-requires-clause-in_range : goal.leaves_world-requires-clause-in_range
-leaves_world-requires-clause-in_range c =
-    faces_in_range c.args.motion.now c.args.id (at (whole c.args.map.now) c.args.id) _ _ c.in-Brush.body (c.requires.there ∙ ap Some c.in-Brush.is) c.requires.points
+pub leaves_world-requires : goal.leaves_world-requires
+leaves_world-requires c =
+    record { in_range = faces_in_range c.args.motion.now c.args.id (at (whole c.args.map.now) c.args.id) _ _ c.in-Brush.body (c.requires.there ∙ ap Some c.in-Brush.is) c.requires.points }
 
 pub returns-then-leaves : goal.returns-then-leaves
 returns-then-leaves c =

@@ -1,7 +1,7 @@
 use Rattle.std.proofs.Common.{◌++◌, ap, ◌∙◌}
 use Rattle.map_model.specs.Tree.{whole, preorder}
 use Rattle.map_model.specs.Edits.{swap}
-use Rattle.edit_ops.proofs.Lists.{joined_more, joined_all}
+use Rattle.brush_plans.proofs.Lists.{joined_more, joined_all}
 use Rattle.edit_ops.proofs.moving.all_beneath.Goals as goal
 
 pub loop-id-preserved : goal.loop-id-preserved

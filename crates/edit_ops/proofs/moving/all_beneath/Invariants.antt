@@ -1,6 +1,6 @@
 use Rattle.map_model.specs.Tree.{whole, preorder}
 use Rattle.map_model.specs.Edits.{swap}
-use Rattle.edit_ops.proofs.Lists.{Joined}
+use Rattle.brush_plans.proofs.Lists.{Joined}
 use Rattle.edit_ops.proofs.moving.all_beneath.Given as goal
 
 abbrev pub invariant-loop-id : goal.invariant-loop-id

@@ -1,7 +1,7 @@
 use Rattle.map_model.specs.Tree.{whole}
 use Rattle.map_model.specs.Edits.{swap}
 use Rattle.map_model.specs.Own.{moved_node}
-use Rattle.edit_ops.proofs.Lists.{is_member}
+use Rattle.brush_plans.proofs.Lists.{is_member}
 use Rattle.edit_ops.proofs.Renewals.{renewing, is_same, renewed_one, renewed_all}
 use Rattle.edit_ops.proofs.moving_nodes.move_nodes.Goals as goal
 

@@ -1,5 +1,5 @@
 use Rattle.std.proofs.Common.{refl}
-use Rattle.edit_ops.proofs.Lists.{not_both}
+use Rattle.brush_plans.proofs.Lists.{not_both}
 use Rattle.edit_ops.proofs.ThreeCounts.{count_ok, count_none, count_large}
 use Rattle.edit_ops.proofs.places.number.Goals as goal
 

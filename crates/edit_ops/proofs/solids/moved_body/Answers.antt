@@ -1,31 +1,23 @@
-use Rattle.std.proofs.Common.{ap, sym, subst, ◌∙◌, length, map, ◌≤◌}
-use Rattle.algebra.specs.Members.{◌∈◌}
-use Rattle.solid_brush.specs.Sides.{IsBuiltOf}
-use Rattle.map_nodes.specs.Seen.{sides_of}
+use Rattle.std.proofs.Common.{map, ap, subst, sym, ◌∙◌}
+use Rattle.solid_brush.specs.Moved.{moved_side, IsMovedOf}
 use Rattle.edit_ops.specs.Moving.{carried}
-use Rattle.edit_ops.specs.Solids.{moved_face}
-use Rattle.edit_ops.proofs.MovedSolids.{few_of, fits}
+use Rattle.edit_ops.proofs.MovedSolids.{in_range, fits, never_out}
 use Rattle.edit_ops.proofs.solids.moved_body.Goals as goal
 
-pub carried_faces-requires-clause-in_range : goal.carried_faces-requires-clause-in_range
-carried_faces-requires-clause-in_range c = λ f i. c.requires.can.in_range f (subst (λ l. f ∈ l) c.faces-old.ensures.faces i)
-
-pub carried_faces-requires-clause-offsets : goal.carried_faces-requires-clause-offsets
-carried_faces-requires-clause-offsets c = λ f i. c.requires.can.offsets f (subst (λ l. f ∈ l) c.faces-old.ensures.faces i)
-
-pub moved_solid-requires-clause-few : goal.moved_solid-requires-clause-few
-moved_solid-requires-clause-few c = subst (λ l. length l ≤ 128) (sym c.faces-old.ensures.faces) (few_of c.args.body.now c.is_valid.ensures)
-
-pub moved_solid-requires-clause-in_range : goal.moved_solid-requires-clause-in_range
-moved_solid-requires-clause-in_range c = λ f i. c.requires.can.in_range f (subst (λ l. f ∈ l) c.faces-old.ensures.faces i)
+pub moved-requires : goal.moved-requires
+moved-requires c = record { in_range = in_range c.args.motion.now c.args.body.now c.solid.result.now c.solid.ensures.sides c.requires.can.in_range }
 
 pub of-requires : goal.of-requires
 of-requires c =
     let r = c.args.motion.now in
+    let sides = c.solid.result.now in
     record {
-      fits = fits c.args.lock r c.args.body.now c.in_ok-new.new c.in-Ok.solid c.requires.can (c.in_ok-new.ensures ∙ ap (map (carried c.args.lock r)) c.faces-old.ensures.faces)
-          (subst (λ fs. IsBuiltOf (sides_of (map (moved_face r) fs)) c.in-Ok.solid) c.faces-old.ensures.faces c.in-Ok.ensures.built);
+      fits = fits c.args.lock r c.args.body.now c.in_ok-faces.faces sides c.in-Some.solid c.requires.can c.solid.ensures.sides
+          (c.in_ok-faces.ensures ∙ ap (map (carried c.args.lock r)) c.faces.ensures.faces) (subst (IsMovedOf r sides) c.in-Some.is c.in_ok-solid.ensures.moved).0;
     }
 
-pub returns-in-Ok : goal.returns-in-Ok
-returns-in-Ok c = c.of.ensures ∙ c.in_ok-new.ensures ∙ ap (map (carried c.args.lock c.args.motion.now)) c.faces-old.ensures.faces
+pub unreachable-requires : goal.unreachable-requires
+unreachable-requires c =
+    let r = c.args.motion.now in
+    let sides = c.solid.result.now in
+    never_out c.args.lock r c.args.body.now sides c.requires.can c.solid.ensures.sides (subst (IsMovedOf r sides) c.in-None.is c.in_ok-solid.ensures.moved)

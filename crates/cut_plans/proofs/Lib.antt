@@ -1,0 +1,12 @@
+pub mod Faces
+pub mod Trimmed
+pub mod Laws
+pub mod Outcomes
+pub mod Others
+pub mod Brushes
+pub mod OneSide
+pub mod ClippedLists
+pub mod ClipRows
+pub mod Placing
+pub mod ClipOutcomes
+pub mod WhichCommand

@@ -1,0 +1,8 @@
+-- Which commands are of this crate.
+use Rattle.std.proofs.Common.{◌≡◌, List, true, refl, sym, true≢false, ℤ, ℕ}
+use Rattle.map_model.specs.Commands.{Command, Clip, Part}
+use Rattle.cut_plans.specs.CutCommands.{is_cut_command}
+
+pub none_other : (c : Command) → is_cut_command c ≡ true → ((part : Part) (plane : List (List ℤ)) (ns : List ℕ) → ¬ (c ≡ Clip part plane ns)) → ⊥
+none_other (Clip part plane ns) e clip = clip part plane ns refl
+none_other c e clip = true≢false (sym e)

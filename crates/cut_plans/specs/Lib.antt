@@ -1,0 +1,6 @@
+-- Definitions.
+pub mod CutCommands
+pub mod Told
+pub mod Results
+pub mod Clips
+pub mod Ending

@@ -1,0 +1,16 @@
+//! Commands that cut brushes, planned over a map: `clip`.
+//!
+//! [`edit`] gives the first refusal of the one order in which refusals are tried, or else a change that names exactly the
+//! nodes that differ, with the reply. It changes no map. Each part of a brush is cut from the brush's solid, and its faces
+//! keep the fields of the faces from which they come.
+#![tactic(auto)]
+
+mod bodies;
+mod clip_plans;
+mod clipping;
+mod editing;
+mod halves;
+mod solid_bodies;
+mod told;
+
+pub use editing::{edit, is_cut_command};
