@@ -1,7 +1,7 @@
 -- Which commands the session answers by its own words, by changing the map, or as not built.
 use Rattle.std.proofs.Common.{◌≡◌, ℕ, Bool, true, false, cond, List, Some, Ok, refl, ap, sym, ◌∙◌, true≢false, ◌||◌}
 use Rattle.std.proofs.Common.{List, subst, inl, inr, ⊎_elim}
-use Rattle.std.specs.Prelude.{IsTrue, None, Err}
+use Rattle.std.specs.Prelude.{IsTrue, None, Err, ℤ}
 use Rattle.cmd_text.specs.Reading.{Read, line_read, keeps_read}
 use Rattle.cmd_text.specs.declared.reply.Refusal.TheVariants.{NotBuilt}
 use Rattle.map_model.specs.Below.{Below}
@@ -18,6 +18,7 @@ use Rattle.tree_session.specs.Sitting.{Obeys, Stops, Answers, ObeysOrStops}
 changing_built : (c : Command) → changes_map c ≡ true → is_built c ≡ true
 changing_built (Material name) e = refl
 changing_built (Lock on) e = refl
+changing_built (Uv n face p) e = refl
 changing_built Undo e = refl
 changing_built Redo e = refl
 changing_built (Show n) e = refl
@@ -53,6 +54,7 @@ edits_brushes c changes other = ap (λ t. t || is_edit_command c) (sym other) �
 pub record IsOther (c : Command) : Type 0 where
   pub not_material : (name : List ℕ) → ¬ (c ≡ Material name)
   pub not_lock : (on : Bool) → ¬ (c ≡ Lock on)
+  pub not_uv : (n face : ℕ) (p : List ℤ) → ¬ (c ≡ Uv n face p)
   pub not_undo : ¬ (c ≡ Undo)
   pub not_redo : ¬ (c ≡ Redo)
   pub not_show : (n : ℕ) → ¬ (c ≡ Show n)
@@ -61,6 +63,7 @@ pub record IsOther (c : Command) : Type 0 where
 not_built : (c : Command) → IsOther c → changes_map c ≡ false → is_built c ≡ false
 not_built (Material name) other e = absurd (other.not_material name refl)
 not_built (Lock on) other e = absurd (other.not_lock on refl)
+not_built (Uv n face p) other e = absurd (other.not_uv n face p refl)
 not_built Undo other e = absurd (other.not_undo refl)
 not_built Redo other e = absurd (other.not_redo refl)
 not_built (Show n) other e = absurd (other.not_show n refl)

@@ -4,7 +4,7 @@ use Rattle.line_machine.specs.Machine.{Step, NeverSaysMemory, IsAnsweredByFront}
 use Rattle.cmd_text.specs.declared.reply.Refusal.TheVariants.{NotBuilt}
 use Rattle.cmd_text.specs.Reading.{Read, line_read}
 use Rattle.map_model.specs.Below.{Below}
-use Rattle.map_model.specs.Commands.{Command, Material, Lock, Undo, Redo, Show, Tree}
+use Rattle.map_model.specs.Commands.{Command, Material, Lock, Uv, Undo, Redo, Show, Tree}
 use Rattle.map_model.specs.Machine.{State, Answered, Silent, Short, answer_text, only, refused, fault_reply, obey}
 use Rattle.tree_ops.specs.TreeCommands.{is_tree_command}
 use Rattle.edit_ops.specs.EditCommands.{is_edit_command}
@@ -17,6 +17,7 @@ changes_map c = is_tree_command c || is_edit_command c
 abbrev pub is_built : Command → Bool
 is_built (Material name) = true
 is_built (Lock on) = true
+is_built (Uv n face p) = true
 is_built Undo = true
 is_built Redo = true
 is_built (Show n) = true

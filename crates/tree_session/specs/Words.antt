@@ -1,11 +1,11 @@
 -- What the words do to the parts of a session, in the machine's words.
-use Rattle.std.specs.Prelude.{◌≡◌, ◌⊎◌, ℕ, Bool, true, false, not, List, Option, None, Some}
+use Rattle.std.specs.Prelude.{◌≡◌, ◌⊎◌, ℕ, Bool, true, false, not, List, Option, None, Some, ℤ}
 use Rattle.uv_lock.specs.declared.texture.Format.{Format}
 use Rattle.uv_lock.specs.declared.texture.Format.TheVariants.{Standard, Valve}
 use Rattle.map_model.specs.Tree.{Whole, Held, Node, whole, at, format_of, kind_of}
 use Rattle.map_model.specs.Edits.{Changes, swap}
 use Rattle.map_model.specs.Below.{Below, IsRight}
-use Rattle.map_model.specs.Commands.{Settings, Command, Show, Tree}
+use Rattle.map_model.specs.Commands.{Settings, Command, Show, Tree, Uv}
 use Rattle.map_model.specs.Replies.{Refusal, Reply, Done, Memory, NoNode, WrongKind}
 use Rattle.map_model.specs.History.{Records}
 use Rattle.map_model.specs.Rows.{refuse, may_be_shown}
@@ -71,3 +71,7 @@ ListsNode m n answer = Lists m (Show n) answer
 
 abbrev pub ListsTree : Whole → Answer → Type 0
 ListsTree m answer = Lists m Tree answer
+
+-- `uv` at the map m, whatever state has it as its current map.
+abbrev pub AnswersPoint : Whole → (n face : ℕ) → List ℤ → Reply → Type 0
+AnswersPoint m n face p reply = (s : State) → current s ≡ m → (b : Below) → IsRight b → obey b s (Uv n face p) ≡ only s (Short reply)

@@ -7,6 +7,7 @@
 #![tactic(auto)]
 
 mod answer;
+mod asking;
 mod brush_lines;
 mod entity_lines;
 mod laws;

@@ -5,6 +5,7 @@ ghost use Rattle.undo_log.specs.Log.{Keeps};
 ghost use Rattle.tree_session.specs.Sitting.{state_at, answer_of, ObeysOrStops};
 
 use crate::answer::Answer;
+use crate::asking::uv;
 use crate::listings::{show, tree};
 use crate::own_words::{lock, redo, take_material, undo};
 use crate::planned::change;
@@ -34,6 +35,7 @@ fn obey_it(
     match command {
         Command::Material { name } => Answer::Short(take_material(alloc, settings, name)),
         Command::Lock { on } => Answer::Short(lock(settings, map, *on)),
+        Command::Uv { node, face, at } => Answer::Short(uv(map, *node, *face, *at)),
         Command::Undo => Answer::Short(undo(history, map)),
         Command::Redo => Answer::Short(redo(history, map)),
         Command::Show { node } => show(alloc, map, *node),
