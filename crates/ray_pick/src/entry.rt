@@ -9,8 +9,8 @@ use crate::passing::Passing;
 use exact_geom::Point;
 use solid_brush::Side;
 
-/// The last plane that the ray passes inward, or its first point where it passes none behind it: there all of these planes are
-/// passed, and before there some isn't.
+/// The last plane that the ray passes inward, or its first point where none of them lies ahead: there all of these planes are
+/// passed, and at no earlier point are they.
 pub(crate) fn entry(sides: &[Side], from: &Point, to: &Point) -> Passing
     requires from_in_range { IsTrue (is_in_range from.now) }
     requires to_in_range { IsTrue (is_in_range to.now) }

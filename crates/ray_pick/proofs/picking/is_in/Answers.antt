@@ -18,7 +18,7 @@ returns-then-in_front c =
     let t = place c.args.at.now in
     let s = c.side-item.result in
     let o = c.of-passing.ensures in
-    let is = seen (bounds s) a b c.of-passing.result o.passes o.small t t.num t.den c.side_at.result refl refl c.requires.small.start c.requires.small.fall c.side_at.ensures in (
+    let is = seen (bounds s) a b c.of-passing.result o.passes o.small t t.num t.den c.side_at-in_front.result refl refl c.requires.small.start c.requires.small.fall c.side_at-in_front.ensures in (
       λ e. absurd (true≢false (sym e)),
       λ all. absurd (in_front _ _ is c.if-in_front.true (all (bounds s) (is_member c.args.sides.now c.loop-side.side-index s c.loop-side-test.true c.side-item.is))),
     )
@@ -30,7 +30,7 @@ loop-side-preserved c =
     let t = place c.args.at.now in
     let s = c.side-item.result in
     let o = c.of-passing.ensures in
-    let is = seen (bounds s) a b c.of-passing.result o.passes o.small t t.num t.den c.side_at.result refl refl c.requires.small.start c.requires.small.fall c.side_at.ensures in
+    let is = seen (bounds s) a b c.of-passing.result o.passes o.small t t.num t.den c.side_at-in_front.result refl refl c.requires.small.start c.requires.small.fall c.side_at-in_front.ensures in
     every_more c.args.sides.now c.loop-side.side-index s c.loop-side-test.true c.side-item.is (λ f. side f (point_at a b t) ≤ℤ pos 0) c.loop-side.invariant
     (not_front _ _ is c.if-in_front.false)
 
