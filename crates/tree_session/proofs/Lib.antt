@@ -6,3 +6,4 @@ pub mod States
 pub mod WhichWords
 pub mod Arms
 pub mod Serving
+pub mod FaceCoordinates
