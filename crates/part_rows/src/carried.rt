@@ -1,12 +1,13 @@
 //! Faces that motions carry, and their texture coordinates.
 
+use crate::documents::read;
 use crate::hulls::is_in_range;
 use crate::motions::motion;
 use crate::row::Row;
 use case_text::{CaseFault, add_line};
 use exact_geom::{Plane, Rows};
 use fixed_num::{Frac, Text};
-use map_text::{MapDoc, RawBrush, RawEntity, read_map};
+use map_text::{MapDoc, RawBrush, RawEntity};
 use map_write::{all_good, write_map};
 use std::alloc::{AllocError, Global};
 use uv_lock::{Face, Format, Tex, carry, to_valve, uv_at};
@@ -22,7 +23,7 @@ fn only_face(doc: &MapDoc) -> Option<&Face> {
 // The face of a line of a map text.
 fn face(alloc: Global, line: &str) -> Result<Face, CaseFault> {
     let text = format!(in alloc; "{{ {{ {line} }} }}\n")?;
-    let Ok(doc) = read_map(alloc, text.as_bytes()) else {
+    let Ok(doc) = read(alloc, text.as_bytes())? else {
         return Err(CaseFault::Line);
     };
     Ok(only_face(&doc).ok_or(CaseFault::Line)?.copy(alloc)?)

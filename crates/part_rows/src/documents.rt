@@ -86,8 +86,8 @@ fn add_document(
     add_written(out, around, texts, &written)
 }
 
-// What a text reads as.
-fn read(alloc: Global, text: &[u8]) -> Result<Result<MapDoc, ReadFault>, CaseFault> {
+/// What a text reads as. A text that is longer than a map may be is no case.
+pub fn read(alloc: Global, text: &[u8]) -> Result<Result<MapDoc, ReadFault>, CaseFault> {
     if text.len() > LONGEST {
         return Err(CaseFault::Number);
     }
