@@ -7,7 +7,7 @@ set -euo pipefail
 source "$(cd "$(dirname "$0")" && pwd)/shapes_common.sh"
 
 echo "a box without a box inside it: $(each 20 120 of_rows differences)"
-inside 'csg_ops::subtracting::subtract'
+inside 'csg_ops::carving::carve'
 echo "a brush of 126 faces split: $(each 1 4 of_rows splits)"
 inside 'csg_ops::splitting::split'
 echo "two boxes intersected: $(each 20 120 of_rows intersections)"

@@ -27,5 +27,5 @@ each() {
 
 # The instructions inside the calls of a function whose name has a word, in the last run, and how many calls there were.
 inside() {
-    callgrind_annotate --inclusive=yes --threshold=100 "$out/last.callgrind" | grep -a -F "$1" | head -1 | sed 's/^ *//; s/ \[.*//'
+    callgrind_annotate --inclusive=yes --threshold=100 "$out/last.callgrind" | grep -a -F "$1" | head -1 | sed 's/^ *//; s/ \[.*//' || echo "($1 is compiled into its caller)"
 }
