@@ -70,8 +70,10 @@ fn moved_shape(alloc: Global, motion: &Motion, shape: &Shape) -> Result<Option<S
 }
 
 impl Poly {
-    /// The polyhedron of the moved planes, each with its tag. `None` exactly where a vertex leaves the world, the cube from
-    /// -4096 to 4096. It takes time in the number of vertices and edges, times a logarithm at most.
+    /// The polyhedron of the moved planes, each with its tag, where the points of all moved planes are in range. `None` exactly
+    /// where a vertex leaves the world, the cube from -4096 to 4096. An error comes for want of memory alone.
+    ///
+    /// It takes time in the number of slots of vertices, edges and faces, times a logarithm at most.
     pub fn moved(&self, alloc: Global, motion: &Motion) -> Result<Option<Poly>, AllocError>
         requires in_range { Every (λ s. first_out_of_range (moved_plane motion.now s.plane) ≡ None) self.now }
         ensures moved { IfOk result (IsMovedTo motion.now self.now) }

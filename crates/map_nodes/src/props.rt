@@ -74,7 +74,8 @@ impl Props {
         }
     }
 
-    /// Gives a key a value: the pair stands in the key's place, or last where the key is new.
+    /// Gives a key a value: the pair stands in the key's place, or last where the key is new. An error comes for want of memory
+    /// alone, and nothing changes then.
     pub fn set(&mut self, alloc: Global, key: &[u8], value: &[u8]) -> Result<(), AllocError>
         ensures ok { OnOk result (self.new ≡ put_property key.now value.now self.old) }
         ensures err { OnErr result (self.new ≡ self.old) }
@@ -84,7 +85,8 @@ impl Props {
         self.put(own_key, own_value)
     }
 
-    /// What `set` does, with texts that the pair takes over. Their bytes aren't copied.
+    /// What `set` does, with texts that the pair takes over: their bytes aren't copied. An error comes for want of memory alone,
+    /// and nothing changes then.
     pub fn put(&mut self, key: Text, value: Text) -> Result<(), AllocError>
         ensures ok { OnOk result (self.new ≡ put_property key value self.old) }
         ensures err { OnErr result (self.new ≡ self.old) }

@@ -7,7 +7,7 @@ use solid_brush::Side;
 use std::alloc::{AllocError, Global};
 use uv_lock::Face;
 
-/// The sides of faces: each has its place as its tag.
+/// The sides of faces: each has its place as its tag. An error comes for want of memory alone.
 pub fn sides_of(alloc: Global, faces: &[Face]) -> Result<Vec<Side>, AllocError>
     requires few { length faces.now ≤ 256 }
     ensures { IfOk result (λ sides. sides.items ≡ sides_of faces.now) }

@@ -131,9 +131,10 @@ impl Solid {
         number_as_u32(self.poly.loop_of_face(face as usize, k as usize))
     }
 
-    /// The brush of the moved sides, each with its tag. `None` exactly where a vertex leaves the world.
+    /// The brush of the moved sides, each with its tag, where the points of all moved planes are in range. `None` exactly where a
+    /// vertex leaves the world. An error comes for want of memory alone.
     ///
-    /// It is moved as it stands, without a cut: its time grows with the number of its vertices and edges, times a logarithm at
+    /// It is moved as it stands, without a cut: its time grows with the slots of its vertices and edges, times a logarithm at
     /// most.
     pub fn moved(&self, alloc: Global, motion: &Motion) -> Result<Option<Solid>, AllocError>
         requires in_range { Every (λ s. first_out_of_range (moved_plane motion.now s.plane) ≡ None) self.now }
