@@ -59,7 +59,7 @@ replies m Both points ns made = refl
 
 module _ (s : Settings) (m : Whole) (part : Part) (points : List (List ℤ)) (ns : List ℕ) (material : KeepsMaterial s) (good : IsGood (Clip part points ns)) (map_is : IsMap m) where
   pub refuses : (fault : OpFault) → IsCut s m part points ns (Err fault) → RefusesRightly s m (Clip part points ns) fault
-  refuses (No refusal) says = outcome.refuses s m (Clip part points ns) material refl good map_is refusal says
+  refuses (No refusal) says = outcome.refuses s m (Clip part points ns) material refl tt good map_is refusal says
   refuses Memory says = tt
 
   module _ (list : List Clipped) (cut : AreCut s m part points ns list) where
@@ -76,14 +76,14 @@ module _ (s : Settings) (m : Whole) (part : Part) (points : List (List ℤ)) (ns
 
     pub refuses_late : (fault : OpFault) → Ends m ns (each_in_turn put_clipped list m) (drawn_for part ns) (clip_reply part (drawn_for part ns) m.next) (Err fault) → RefusesRightly s m (Clip part points ns) fault
     refuses_late fault ends =
-        outcome.refuses_late s m (Clip part points ns) material refl good map_is cut.passes (each_in_turn put_clipped list m) (drawn_for part ns) (clip_reply part (drawn_for part ns) m.next)
+        outcome.refuses_late s m (Clip part points ns) material refl tt good map_is cut.passes (each_in_turn put_clipped list m) (drawn_for part ns) (clip_reply part (drawn_for part ns) m.next)
         own_is next_is (replies m part points ns (drawn_for part ns)) fault ends
 
     module _ (p : Planned) (makes : Makes m ns (each_in_turn put_clipped list m) (drawn_for part ns) (clip_reply part (drawn_for part ns) m.next) p) where
       pub plans : Plans s m (Clip part points ns) p.change p.reply
-      plans = outcome.plans s m (Clip part points ns) material refl good map_is cut.passes (each_in_turn put_clipped list m) (drawn_for part ns) (clip_reply part (drawn_for part ns) m.next)
+      plans = outcome.plans s m (Clip part points ns) material refl tt good map_is cut.passes (each_in_turn put_clipped list m) (drawn_for part ns) (clip_reply part (drawn_for part ns) m.next)
           own_is next_is (replies m part points ns (drawn_for part ns)) p makes
 
       pub is_map : IsMap (swap m p.change)
-      is_map = outcome.is_map s m (Clip part points ns) material refl good map_is cut.passes (each_in_turn put_clipped list m) (drawn_for part ns) (clip_reply part (drawn_for part ns) m.next)
+      is_map = outcome.is_map s m (Clip part points ns) material refl tt good map_is cut.passes (each_in_turn put_clipped list m) (drawn_for part ns) (clip_reply part (drawn_for part ns) m.next)
           own_is next_is (replies m part points ns (drawn_for part ns)) p makes

@@ -1,16 +1,15 @@
--- What laws of maps say of the commands of this crate.
+-- What laws of maps say of the commands that make brushes of brushes or of points.
 use Rattle.std.proofs.Common.{◌≡◌, ℕ, ◌<◌, ◌≤◌, IsTrue, Ok, None, Some, refl, false, ap, sym, ◌∙◌, ◌⊎◌, inl, inr, true≢false}
 use Rattle.std.specs.Prelude.{option_map, unwrap_or}
 use Rattle.std.proofs.lemmas.Bool.{cases_lt}
 use Rattle.map_model.specs.Tree.{Whole, Node, world, has_kind, at}
 use Rattle.map_model.specs.Below.{Below, IsRight}
-use Rattle.map_model.specs.Commands.{Command, Clip, Settings, IsGood}
+use Rattle.map_model.specs.Commands.{Command, Settings, IsGood}
 use Rattle.map_model.specs.Rows.{first}
 use Rattle.map_model.specs.Own.{own}
 use Rattle.map_model.specs.Apply.{Applied, apply, unless}
 use Rattle.map_laws.specs.Unlinked.{finish_unlinked}
 use Rattle.map_laws.specs.Reshaping.{is_reshaping_command, reshaping_rows, HasPairs}
-use Rattle.cut_plans.specs.CutCommands.{is_cut_command}
 use Rattle.map_laws.specs.BoxCommand.{KeepsMaterial}
 use Rattle.map_laws.proofs.ReshapingRows.{reshaping_rows_are}
 use Rattle.map_laws.proofs.ReshapingCommands.{reshaping_apply, reshaping_command}
@@ -18,24 +17,16 @@ use Rattle.tree_node.specs.Held.{IsMap}
 pub use Rattle.map_model.proofs.SomeRight.{some_are_right}
 pub use Rattle.map_laws.proofs.BoxCommand.{material_kept}
 
-reshapes : (c : Command) → IsTrue (is_cut_command c) → IsTrue (is_reshaping_command c)
-reshapes (Clip part plane ns) is = refl
-reshapes c is = absurd (true≢false (sym is))
-
-pairs : (c : Command) → IsTrue (is_cut_command c) → HasPairs c
-pairs (Clip part plane ns) is = tt
-pairs c is = absurd (true≢false (sym is))
-
-pub applied_is : (b : Below) (s : Settings) (m : Whole) (c : Command) → IsRight b → KeepsMaterial s → IsTrue (is_cut_command c) → IsGood c → IsMap m →
+pub applied_is : (b : Below) (s : Settings) (m : Whole) (c : Command) → IsRight b → KeepsMaterial s → IsTrue (is_reshaping_command c) → HasPairs c → IsGood c → IsMap m →
     apply b s m c ≡ unless (first (reshaping_rows b s m c)) (finish_unlinked m c (own b s m c))
-applied_is b s m c right material is good map =
-    reshaping_apply b s m c right material (reshapes c is) good (pairs c is) map.shape map.unlinked
-    ∙ ap (λ r. unless r (finish_unlinked m c (own b s m c))) (reshaping_rows_are b s m c (reshapes c is) map.unlinked)
+applied_is b s m c right material is pairs good map =
+    reshaping_apply b s m c right material is good pairs map.shape map.unlinked
+    ∙ ap (λ r. unless r (finish_unlinked m c (own b s m c))) (reshaping_rows_are b s m c is map.unlinked)
 
-pub stays_map : (b : Below) (s : Settings) (m : Whole) (c : Command) (a : Applied) → IsRight b → KeepsMaterial s → IsTrue (is_cut_command c) → IsGood c → IsMap m →
+pub stays_map : (b : Below) (s : Settings) (m : Whole) (c : Command) (a : Applied) → IsRight b → KeepsMaterial s → IsTrue (is_reshaping_command c) → HasPairs c → IsGood c → IsMap m →
     apply b s m c ≡ Ok a → IsMap a.map
-stays_map b s m c a right material is good map e =
-    let kept = reshaping_command b s m c a right material (reshapes c is) good (pairs c is) map.shape map.unlinked e in
+stays_map b s m c a right material is pairs good map e =
+    let kept = reshaping_command b s m c a right material is good pairs map.shape map.unlinked e in
     record { shape = kept.0; unlinked = kept.1 }
 
 -- The world has a number, and each node one below the next.

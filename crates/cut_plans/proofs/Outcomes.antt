@@ -12,8 +12,7 @@ use Rattle.map_model.specs.Own.{own}
 use Rattle.map_model.specs.Apply.{Applied, apply, unless, full, prune, reply_of}
 use Rattle.map_model.specs.Promises.{Applies, Plans, Refuses}
 use Rattle.map_laws.specs.Unlinked.{finish_unlinked}
-use Rattle.map_laws.specs.Reshaping.{reshaping_rows}
-use Rattle.cut_plans.specs.CutCommands.{is_cut_command}
+use Rattle.map_laws.specs.Reshaping.{is_reshaping_command, reshaping_rows, HasPairs}
 use Rattle.map_laws.specs.BoxCommand.{KeepsMaterial}
 use Rattle.tree_node.specs.Held.{IsMap}
 use Rattle.tree_ops.specs.Faults.{RefusesRightly}
@@ -30,9 +29,9 @@ few n le = grind (arith, nat_tests)
 many : (n : ℕ) → 65535 < n → nat_lt 65535 n ≡ true
 many n lt = grind (arith, nat_tests)
 
-module _ (s : Settings) (m : Whole) (c : Command) (material : KeepsMaterial s) (is : IsTrue (is_cut_command c)) (good : IsGood c) (map : IsMap m) where
+module _ (s : Settings) (m : Whole) (c : Command) (material : KeepsMaterial s) (is : IsTrue (is_reshaping_command c)) (pairs : HasPairs c) (good : IsGood c) (map : IsMap m) where
   applied : (b : Below) → IsRight b → (r : Option Refusal) → first (reshaping_rows b s m c) ≡ r → apply b s m c ≡ unless r (finish_unlinked m c (own b s m c))
-  applied b right r e = applied_is b s m c right material is good map ∙ ap (λ o. unless o (finish_unlinked m c (own b s m c))) e
+  applied b right r e = applied_is b s m c right material is pairs good map ∙ ap (λ o. unless o (finish_unlinked m c (own b s m c))) e
 
   -- A row refuses it.
   pub refuses : (refusal : Refusal) → ((b : Below) → IsRight b → first (reshaping_rows b s m c) ≡ Some refusal) → Refuses s m c refusal
@@ -67,4 +66,4 @@ module _ (s : Settings) (m : Whole) (c : Command) (material : KeepsMaterial s) (
       plans = record { applies = applies; tight = makes.tight }
 
       pub is_map : IsMap (swap m p.change)
-      is_map = stays_map some_are_right.tests s m c (record { map = swap m p.change; reply = p.reply }) some_are_right.right material is good map (applies some_are_right.tests some_are_right.right)
+      is_map = stays_map some_are_right.tests s m c (record { map = swap m p.change; reply = p.reply }) some_are_right.right material is pairs good map (applies some_are_right.tests some_are_right.right)

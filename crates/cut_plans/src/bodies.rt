@@ -7,7 +7,7 @@ use map_nodes::{Body, Node, NodeId};
 use tree_node::Map;
 
 /// The body of a brush.
-pub(crate) fn body_at(map: &Map, id: NodeId) -> &Body
+pub fn body_at(map: &Map, id: NodeId) -> &Body
     requires brush { IsTrue (is_brush (whole map.now) id) }
     ensures { result.now ≡ faces_at (whole map.now) id }
 {

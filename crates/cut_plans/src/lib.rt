@@ -13,4 +13,7 @@ mod halves;
 mod solid_bodies;
 mod told;
 
+pub use bodies::body_at;
 pub use editing::{edit, is_cut_command};
+pub use solid_bodies::body_of_solid;
+pub use told::faces_of;

@@ -12,8 +12,8 @@ use std::alloc::{AllocError, Global};
 use tree_ops::OpFault;
 use uv_lock::Face;
 
-/// The brush of a solid, whose sides tell its faces.
-pub(crate) fn body_of_solid(
+/// The brush of a solid, whose sides tell its faces. It fails for want of memory alone.
+pub fn body_of_solid(
     alloc: Global,
     base: u32,
     old: &[Face],

@@ -40,8 +40,8 @@ fn face_of(
     })
 }
 
-/// The faces of sides, in order.
-pub(crate) fn faces_of(
+/// The faces of sides, in order. It fails for want of memory alone.
+pub fn faces_of(
     alloc: Global,
     base: u32,
     old: &[Face],
