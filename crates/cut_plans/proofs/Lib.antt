@@ -10,3 +10,9 @@ pub mod ClipRows
 pub mod Placing
 pub mod ClipOutcomes
 pub mod WhichCommand
+pub mod Pieces
+pub mod PieceResults
+pub mod PartedLists
+pub mod PartedPlacing
+pub mod SubtractRows
+pub mod SubtractOutcomes

@@ -79,7 +79,7 @@ module _ {A : Type 0} (w : Option Node → A) (same : (b : Bool) (f : List ℕ �
   put_new-keeps n None m q lt = refl
   put_new-keeps n (Some faces) m q lt = put_after-keeps n faces m q lt
 
-put_at-next : (old : ℕ) (ks : List ℕ) (m : Whole) → (put_at old ks m).next ≡ m.next
+pub put_at-next : (old : ℕ) (ks : List ℕ) (m : Whole) → (put_at old ks m).next ≡ m.next
 put_at-next old ks m = by (up m old)
   where
     by : (o : Option ℕ) → (unwrap_or (option_map (λ p. renew p (relist (is_brush m old) (in_place old ks)) m) o) m).next ≡ m.next

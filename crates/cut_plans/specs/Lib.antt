@@ -4,3 +4,4 @@ pub mod Told
 pub mod Results
 pub mod Clips
 pub mod Ending
+pub mod Subtracts
