@@ -58,6 +58,9 @@ module _ (list : List Parted) (k made : ℕ) (p : Parted) (lt : k < length list)
     few = these.1;
   })
 
+pub none_counted : (list : List Parted) → HaveFewPieces list → Counting list 0 0
+none_counted list few = record { sum = omega arith; most = omega arith; few = few }
+
 pub counted_all : (list : List Parted) (k made : ℕ) → length list ≤ k → Counting list k made → made ≡ drawn_by list
 counted_all list k made le c = omega (arith, c.sum, ap drawn_by (drop_all k list le))
 

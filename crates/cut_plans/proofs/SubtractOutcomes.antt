@@ -1,5 +1,6 @@
 -- What comes of `subtract`.
 use Rattle.std.proofs.Common.{◌≡◌, ℕ, ◌+◌, List, [], ◌∷◌, length, map, Ok, Err, refl, ap, sym, ◌∙◌}
+use Rattle.std.proofs.lemmas.List.{length-map}
 use Rattle.map_model.specs.Tree.{Whole, faces_at}
 use Rattle.map_model.specs.Edits.{swap, each_in_turn, delete}
 use Rattle.map_model.specs.Below.{Below, IsRight}
@@ -16,6 +17,7 @@ use Rattle.tree_ops.specs.declared.planned.Planned.{Planned}
 use Rattle.cut_plans.specs.declared.subtracting.Parted.{Parted}
 use Rattle.cut_plans.specs.Ending.{Makes, Ends}
 use Rattle.cut_plans.specs.Subtracts.{parted_by, put_parted, drawn_by, subtracted, AreSubtracted, IsSubtracted}
+use Rattle.cut_plans.proofs.Laws.{some_are_right}
 use Rattle.cut_plans.proofs.Outcomes as outcome
 use Rattle.cut_plans.proofs.PartedPlacing.{subtracted-next}
 
@@ -29,6 +31,9 @@ module _ (s : Settings) (m : Whole) (by : ℕ) (ns : List ℕ) (material : Keeps
   refuses Memory says = tt
 
   module _ (list : List Parted) (made : AreSubtracted s m by ns list) where
+    pub one_each : length list ≡ length ns
+    one_each = sym (ap length (made.made some_are_right.tests some_are_right.right)) ∙ length-map ns (parted_by m (faces_at m by) some_are_right.tests)
+
     own_is : (b : Below) → IsRight b → own b s m (Subtract by ns) ≡ subtracted by list m
     own_is b right = ap (delete by) (in_turn (parted_by m (faces_at m by) b) ns m ∙ ap (λ l. each_in_turn put_parted l m) (made.made b right))
 

@@ -50,9 +50,7 @@ fn with_first(alloc: Global, first: NodeId, others: &[NodeId]) -> Result<Vec<Nod
 {
     let mut named = Vec::with_capacity(alloc, 1)?;
     named.push(first)?;
-    for id in others {
-        named.push(*id)?;
-    }
+    named.extend_from_slice(others)?;
     Ok(named)
 }
 
