@@ -161,6 +161,7 @@ module _ (base : ℕ) (old new : List Face) (solids : List (List Side)) (le : le
       (subst (λ l. TrimsEach l (map (faces_of base old new) solids))
       (lists_told base old new (sides_of old) (sides_from base new) ∙ (λ i. faces.piece_lists (old_told base old new le i) (new_told base old new i)))
       (each_told base old new (piece_lists reversed (sides_of old) (sides_from base new)) solids are))
+
   pub pieces_told : (kept : List Side) → kept ∈ solids → Every (IsTold base old new) kept
   pieces_told = trims_told base old new (piece_lists reversed (sides_of old) (sides_from base new)) solids are
       (told_in base old new (sides_of old) (sides_from base new) (old_are_told base old new le) (new_are_told base old new))

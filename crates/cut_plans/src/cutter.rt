@@ -1,8 +1,7 @@
 //! The brush that cuts others.
 
-ghost use Rattle.std.specs.Prelude.{◌≡◌, IfOk};
+ghost use Rattle.std.specs.Prelude.{◌≡◌, IsTrue, IfOk};
 ghost use Rattle.map_model.specs.Tree.{whole, is_brush, faces_at};
-ghost use Rattle.std.specs.Prelude.{IsTrue};
 ghost use Rattle.cut_plans.specs.Subtracts.{IsCutter};
 
 use crate::bodies::body_at;
