@@ -1,0 +1,177 @@
+-- The map from which edited groups are spread has its shape, command by command.
+use Rattle.std.proofs.Common.{◌≡◌, ℕ, ◌≤◌, List, [], ◌∷◌, flat_map, true, false, cond, ◌&&◌, ◌⊎◌, inl, inr, refl, ap, sym, ◌∙◌, subst, arith, Some, None, option_map, filter}
+use Rattle.std.specs.Prelude.{option_to_list, is_none}
+use Rattle.std.proofs.lemmas.Bool.{cases_lt, and_parts, and_from}
+use Rattle.algebra.specs.Members.{◌∈◌, there}
+use Rattle.map_model.specs.Tree.{Whole, Node, Kind, at, world, layer, group, entity, brush, up, over, children, among, is_linked, is_kind, is_one_number, kind_of, props_of, with_props, with_frozen, with_mark, format_of, container, all_numbers, numbers_from, content}
+use Rattle.map_model.specs.Edits.{renew, each_in_turn, delete, move_all, draw_number}
+use Rattle.map_model.specs.Shape.{Shape}
+use Rattle.map_model.specs.Below.{Below}
+use Rattle.map_model.specs.Props.{set_value, without_key}
+use Rattle.map_model.specs.Own.{own, ungroup, untie}
+use Rattle.map_model.specs.Apply.{prune, edited, marked, mark_content, mark_new, unmark, before_spread, empty_link, is_emptied}
+use Rattle.map_laws.proofs.Texts.{name_value}
+use Rattle.map_model.specs.Commands.{IsGood, Command, Settings, Delete, Into, Ungroup, Untie, Tie, Set, Unset, Freeze, Thaw, Group as MakeGroup}
+use Rattle.map_model.specs.Replies.{EmptyLink, NestedLink, NoNode}
+use Rattle.map_model.specs.Rows.{named, no_node, edits, rows, first, refuse, at_each, is_in_link, holds_link}
+use Rattle.map_laws.specs.Placed.{Placed, KeepsAll, can_hold}
+use Rattle.link_laws.specs.Laws.{OthersLaw, MarkedLaw}
+use Rattle.map_laws.proofs.Lists.{tally, tally-member}
+use Rattle.map_laws.proofs.Beneath.{Beneath, itself, under, some_one}
+use Rattle.map_laws.proofs.Forest.{not_none}
+use Rattle.map_laws.proofs.Skeleton.{kind_at, planted, placed_of, not_both, kind_is, is_kind_by}
+use Rattle.map_laws.proofs.Slots.{member_among}
+use Rattle.map_laws.proofs.Placing.{chains}
+use Rattle.map_laws.proofs.Replacing.{tally-numbers_in, tally-numbers_out}
+use Rattle.map_laws.proofs.Pruning.{emptied_by}
+use Rattle.map_laws.proofs.Kept.{Comes, comes_itself}
+use Rattle.map_laws.proofs.InTurn.{MovedAll, beneath_sub}
+use Rattle.link_laws.proofs.Moves.{moved_beneath}
+use Rattle.map_laws.proofs.Refused.{NodesFit, nodes_fit, first_none, each_none, refuse_none}
+use Rattle.map_laws.proofs.Pruned.{Pruned, in_chain, rooted_at, not_emptied, prune_none}
+use Rattle.map_laws.proofs.Deleting.{delete_pruned, deleted}
+use Rattle.map_laws.proofs.GoingInto.{into_pruned, into_gone, into_rooted, not_above_place}
+use Rattle.map_laws.proofs.Dissolving.{ungroup_pruned}
+use Rattle.link_laws.proofs.Freed.{ungrouped, untied}
+use Rattle.link_laws.proofs.Moves.{live_kind}
+use Rattle.map_laws.proofs.Holding.{kind_q, parent_holds}
+use Rattle.link_laws.proofs.Gathers.{group_gathers, tie_gathers}
+use Rattle.map_laws.proofs.Untying.{untie_pruned}
+use Rattle.map_laws.proofs.Renewing.{renew_alike, same_children, same_over}
+use Rattle.map_laws.proofs.Parts.{keeps_props, keeps_frozen}
+use Rattle.link_laws.proofs.Renewals.{new_group}
+use Rattle.link_laws.proofs.Renewals.{new_entity, set_shape, unset_shape, frozen_shape}
+use Rattle.link_laws.proofs.Contents.{SameContent, same_itself}
+use Rattle.link_laws.proofs.Edited.{unpruned, group_linked, delete_content, into_content, ungroup_content, untie_content, not_over_by, in_option}
+use Rattle.link_laws.proofs.Untouched.{over_is}
+use Rattle.link_laws.proofs.Remarked.{tally-filter, filter_member, member_filter, remarked, shape_after, spared_after, all_marked, Unchanged}
+use Rattle.link_laws.proofs.MarkSteps.{same_linked}
+use Rattle.link_laws.proofs.Others.{still_one}
+use Rattle.map_model.specs.Links.{One}
+use Rattle.link_laws.proofs.Nested.{pruned_beneath, linked_before, apart_by, link_row, not_into_link}
+
+-- What is known of the map k that a command's own changes make of m.
+pub record Result (m : Whole) (c : Command) (k : Whole) : Type 0 where
+  pub pruned : Pruned (format_of m) m c k
+  pub content : (h : ℕ) → is_linked m h ≡ true → (h ∈ flat_map (edits m c) (named c) → ⊥) → (j : Kind) → kind_at (prune m c k) h ≡ Some j → SameContent h m (prune m c k)
+  pub before : (h g : ℕ) → is_linked m h ≡ true → is_linked m g ≡ true → Beneath (up (prune m c k)) h g → Beneath (up m) h g
+
+numbers_once : (n q : ℕ) → tally q (numbers_from 0 n) ≤ 1
+numbers_once n q = elim (cases_lt q n) [ inl lt ↦ omega (arith, tally-numbers_in 0 n q (omega arith) (omega arith)) | inr far ↦ omega (arith, tally-numbers_out 0 n q (inr (omega arith))) ]
+
+-- The named nodes are there.
+pub named_rooted : (b : Below) (s : Settings) (m : Whole) (c : Command) → Shape m → first (rows b s m c) ≡ None → (n : ℕ) → n ∈ named c → Beneath (up m) 0 n
+named_rooted b s m c shape none n i =
+    let row = refuse_none (is_none (at m n)) (NoNode n) (each_none (named c) (λ n. refuse (is_none (at m n)) (NoNode n)) (first_none (no_node m c) _ none).0 n i) in
+    let k = live_kind m n row in
+    rooted_at m (placed_of shape.standing) shape.numbers.nodes n k.0 k.1
+
+module _ (m : Whole) (c : Command) (k : Whole) (shape : Shape m) (rooted : (n : ℕ) → n ∈ named c → Beneath (up m) 0 n) (r : Result m c k)
+    (is : edited m c (prune m c k) ≡ filter (λ g. is_linked (prune m c k) g && among g (flat_map (edits m c) (named c))) (all_numbers m)) where
+  abbrev P : Whole
+  P = prune m c k
+
+  es : List ℕ
+  es = flat_map (edits m c) (named c)
+
+  abbrev gs : List ℕ
+  gs = filter (λ g. is_linked (prune m c k) g && among g (flat_map (edits m c) (named c))) (all_numbers m)
+
+  placed_m : Placed m
+  placed_m = placed_of shape.standing
+
+  apart : (g : ℕ) → is_linked (prune m c k) g ≡ true → over (prune m c k) g ≡ None
+  apart = apart_by m (prune m c k) shape r.pruned.placed r.pruned.comes
+      (λ h g lh lg ne b. r.before h g (linked_before m (prune m c k) r.pruned.comes h lh) (linked_before m (prune m c k) r.pruned.comes g lg) b)
+
+  linked_gs : (g : ℕ) → g ∈ filter (λ g. is_linked (prune m c k) g && among g (flat_map (edits m c) (named c))) (all_numbers m) → is_linked (prune m c k) g ≡ true
+  linked_gs g i = (and_parts (is_linked (prune m c k) g) (among g (flat_map (edits m c) (named c)))
+      (filter_member (λ g. is_linked (prune m c k) g && among g (flat_map (edits m c) (named c))) g (all_numbers m) i).1).0
+
+  once_gs : (g : ℕ) → tally g (filter (λ g. is_linked (prune m c k) g && among g (flat_map (edits m c) (named c))) (all_numbers m)) ≤ 1
+  once_gs g = le_then (tally-filter (λ g. is_linked (prune m c k) g && among g (flat_map (edits m c) (named c))) g (all_numbers m)) (numbers_once m.next g)
+    where
+      le_then : {a b : ℕ} → a ≤ b → b ≤ 1 → a ≤ 1
+      le_then e f = omega arith
+
+  number : (h : ℕ) → is_linked m h ≡ true → h ∈ all_numbers m
+  number h l = elim (cases_lt h m.next) [
+    | inl lt ↦ tally-member h (all_numbers m) (omega (arith, tally-numbers_in 0 m.next h (omega arith) (omega arith)))
+    | inr far ↦ absurd (not_none (group_linked m h l) (ap (option_map kind_of) (shape.numbers.nodes h far)))
+  ]
+
+  spared : (h : ℕ) → is_linked (prune m c k) h ≡ true → (h ∈ filter (λ g. is_linked (prune m c k) g && among g (flat_map (edits m c) (named c))) (all_numbers m) → ⊥) → SameContent h m (prune m c k)
+  spared h l out =
+      let lm = linked_before m (prune m c k) r.pruned.comes h l in
+      r.content h lm (λ i. out (member_filter (λ g. is_linked (prune m c k) g && among g (flat_map (edits m c) (named c))) h (all_numbers m) (number h lm)
+      (and_from (is_linked (prune m c k) h) (among h (flat_map (edits m c) (named c))) l (member_among h (flat_map (edits m c) (named c)) i)))) group (group_linked (prune m c k) h l)
+
+  full : empty_link m c (prune m c k) ≡ None → (g : ℕ) → is_kind (prune m c k) group g ≡ true → children (prune m c k) g ≡ [] → ⊥
+  full empty g is_g none =
+      let w = r.pruned.empties g is_g none in
+      let lm = linked_before m (prune m c k) r.pruned.comes g w.0 in
+      let a = in_chain m placed_m shape.numbers.nodes (named c) rooted g w.1 in
+      let o = over_is m (chains m (planted placed_m) shape.numbers.nodes) shape.marks.not_nested g a.0 a.1 (rooted a.0 a.2) a.3 a.4 lm in
+      let row = each_none (option_to_list (over m a.0)) (λ g. refuse (is_emptied m (prune m c k) g) (EmptyLink g))
+      (each_none (named c) (λ n. at_each (option_to_list (over m n)) (λ g. refuse (is_emptied m (prune m c k) g) (EmptyLink g))) empty a.0 a.2) g (in_option (over m a.0) g o) in
+      not_both (is_emptied m (prune m c k) g)
+      (emptied_by m (prune m c k) g is_g (shape.standing.no_empty_group g (is_kind_by m group g (group_linked m g lm))) none)
+      (refuse_none (is_emptied m (prune m c k) g) (EmptyLink g) row)
+
+  same : before_spread m c k ≡ Rattle.link_laws.proofs.Remarked.M m (prune m c k) (filter (λ g. is_linked (prune m c k) g && among g (flat_map (edits m c) (named c))) (all_numbers m)) shape r.pruned.placed r.pruned.comes apart linked_gs once_gs spared
+  same = ap (λ l. marked m l (prune m c k)) is ∙ remarked m (prune m c k) (filter (λ g. is_linked (prune m c k) g && among g (flat_map (edits m c) (named c))) (all_numbers m)) shape r.pruned.placed r.pruned.comes apart linked_gs once_gs spared
+
+  marked_shape : empty_link m c (prune m c k) ≡ None → (before_spread m c k).next ≤ 65536 → Shape (before_spread m c k)
+  marked_shape empty most =
+      subst Shape (sym same) (shape_after m P gs shape r.pruned.placed r.pruned.comes apart linked_gs once_gs spared (full empty) (subst (λ n. n ≤ 65536) (ap (λ x. x.next) same) most))
+
+  -- A linked group that isn't edited has its content as before.
+  unchanged : (h : ℕ) → is_linked (before_spread m c k) h ≡ true → (h ∈ edited m c (prune m c k) → ⊥) → Unchanged m (before_spread m c k) h
+  unchanged h l out =
+      subst (λ x. Unchanged m x h) (sym same) (spared_after m P gs shape r.pruned.placed r.pruned.comes apart linked_gs once_gs spared h
+      (sym (same_linked (all_marked m P gs shape r.pruned.placed r.pruned.comes apart linked_gs once_gs spared) h) ∙ ap (λ x. is_linked x h) (sym same) ∙ l)
+      (λ i. out (subst (λ x. h ∈ x) (sym is) i)))
+
+-- A command that changes one node where no other sees it: no mark is drawn.
+turn_same : {A : Type 0} (e f : A → Whole → Whole) → ((x : A) (k : Whole) → e x k ≡ f x k) → (xs : List A) (k : Whole) → each_in_turn e xs k ≡ each_in_turn f xs k
+turn_same e f h [] k = refl
+turn_same e f h (x ∷ xs) k = ap (each_in_turn e xs) (h x k) ∙ turn_same e f h xs (f x k)
+
+marked_before : (m k : Whole) → ((n : ℕ) → over m n ≡ over k n) → (gs : List ℕ) (l : Whole) → marked m gs l ≡ marked k gs l
+marked_before m k h gs l = turn_same (mark_content m) (mark_content k) (λ g w. turn_same (mark_new m g) (mark_new k g) (λ n w.
+    ap (λ o. cond (is_one_number o (Some g)) w (renew n (with_mark (Some w.next)) (draw_number w))) (h n)) (content w g) w) gs (each_in_turn unmark (all_numbers l) l)
+
+pub renewed_shape : (m : Whole) (c : Command) (n : ℕ) (g : Node → Node) → KeepsAll g → Shape (renew n g m) → Shape m →
+    ((k : Whole) → edited m c k ≡ filter (λ g. is_linked k g && among g (flat_map (edits m c) (named c))) (all_numbers m)) → (before_spread m c (renew n g m)).next ≤ 65536 → Shape (before_spread m c (renew n g m))
+renewed_shape m c n g keeps after shape is most =
+    subst Shape (sym same) (shape_after k k gs after placed comes after.marks.not_nested linked_gs once_gs (λ h l out. same_itself h k) (λ g is none. after.standing.no_empty_group g is none)
+    (subst (λ x. x ≤ 65536) (ap (λ x. x.next) same) most))
+  where
+    k : Whole
+    k = renew n g m
+
+    gs : List ℕ
+    gs = filter (λ a. is_linked (renew n g m) a && among a (flat_map (edits m c) (named c))) (all_numbers m)
+
+    placed : Placed (renew n g m)
+    placed = placed_of after.standing
+
+    comes : Comes (format_of (renew n g m)) (renew n g m) (renew n g m)
+    comes = comes_itself (format_of (renew n g m)) (renew n g m) after.numbers.nodes
+
+    pruned : prune m c (renew n g m) ≡ renew n g m
+    pruned = prune_none m c (renew n g m) (λ q. not_emptied m (renew n g m) q (λ had j i s. had (sym (same_children (renew_alike m n g keeps) q) ∙ s)))
+
+    linked_gs : (a : ℕ) → a ∈ filter (λ a. is_linked (renew n g m) a && among a (flat_map (edits m c) (named c))) (all_numbers m) → is_linked (renew n g m) a ≡ true
+    linked_gs a i = (and_parts (is_linked (renew n g m) a) (among a (flat_map (edits m c) (named c))) (filter_member (λ a. is_linked (renew n g m) a && among a (flat_map (edits m c) (named c))) a (all_numbers m) i).1).0
+
+    once_gs : (a : ℕ) → tally a (filter (λ a. is_linked (renew n g m) a && among a (flat_map (edits m c) (named c))) (all_numbers m)) ≤ 1
+    once_gs a = le_then (tally-filter (λ a. is_linked (renew n g m) a && among a (flat_map (edits m c) (named c))) a (all_numbers m)) (numbers_once m.next a)
+      where
+        le_then : {a b : ℕ} → a ≤ b → b ≤ 1 → a ≤ 1
+        le_then e f = omega arith
+
+    same : before_spread m c (renew n g m) ≡ Rattle.link_laws.proofs.Remarked.M (renew n g m) (renew n g m) (filter (λ a. is_linked (renew n g m) a && among a (flat_map (edits m c) (named c))) (all_numbers m)) after placed comes after.marks.not_nested linked_gs once_gs (λ h l out. same_itself h (renew n g m))
+    same = ap (λ p. marked m (edited m c p) p) pruned ∙ ap (λ l. marked m l (renew n g m)) (is (renew n g m))
+        ∙ marked_before m (renew n g m) (λ q. sym (same_over (renew_alike m n g keeps) q)) (filter (λ a. is_linked (renew n g m) a && among a (flat_map (edits m c) (named c))) (all_numbers m)) (renew n g m)
+        ∙ remarked (renew n g m) (renew n g m) (filter (λ a. is_linked (renew n g m) a && among a (flat_map (edits m c) (named c))) (all_numbers m)) after placed comes after.marks.not_nested linked_gs once_gs (λ h l out. same_itself h (renew n g m))
