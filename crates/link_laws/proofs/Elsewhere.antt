@@ -12,7 +12,7 @@ use Rattle.map_laws.proofs.Forest.{not_none}
 use Rattle.map_laws.proofs.Slots.{at-renew_same, at-renew_other}
 use Rattle.link_laws.proofs.Contents.{SameContent, same_content, renew_same}
 use Rattle.link_laws.specs.Elsewhere.{LeavesMembers, ElsewhereLaw, UnlinkLaw}
-use Rattle.link_laws.proofs.Carrying.{mapped}
+use Rattle.lock_laws.proofs.Steps.{mapped}
 use Rattle.link_laws.proofs.Putting.{from_content}
 use Rattle.link_laws.proofs.Ones.{Linked, placed, fm, cm, root, apart}
 use Rattle.link_laws.proofs.SpreadOne.{same_tests, slot_at_both, set_linked}

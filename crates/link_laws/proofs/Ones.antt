@@ -11,7 +11,7 @@ use Rattle.map_model.specs.Carry.{carry}
 use Rattle.map_model.specs.Origins.{is_origin_stuck}
 use Rattle.map_model.specs.Below.{Below}
 use Rattle.map_model.specs.Brushes.{first_place, first_beyond}
-use Rattle.map_model.specs.Commands.{Refusal}
+use Rattle.map_model.specs.Replies.{Refusal}
 use Rattle.map_model.specs.Links.{at_both, content_agrees, same_counts_of_children, same_place, are_image_faces, same_group, origin_agrees, values_agree, IsOneContent, motion_at, leads, old_number, old_node, fault_at, fault_if, image_fault, image_fault_at, first_fault, member_fault, spread_fault}
 use Rattle.map_model.specs.Links.{AgreeInValues}
 use Rattle.map_laws.specs.Placed.{Placed}
@@ -24,9 +24,9 @@ use Rattle.map_laws.proofs.Placing.{chains}
 use Rattle.link_laws.proofs.Edited.{group_linked}
 use Rattle.map_laws.proofs.Renewing.{linked_is}
 use Rattle.link_laws.proofs.Untouched.{over_is}
-use Rattle.link_laws.specs.Motions.{IsTurn}
+use Rattle.orient48.specs.Laws.{IsTurn}
 use Rattle.link_laws.specs.Images.{NodesAgree, CanCarry, OldOk, OldAgree}
-use Rattle.link_laws.proofs.Matrices.{is_turn, turn_back, turn_product}
+use Rattle.orient48.proofs.Matrices.{is_turn, turn_back, turn_product}
 use Rattle.link_laws.proofs.Grafts.{parent_within}
 use Rattle.link_laws.proofs.Pairs.{none_or_some}
 use Rattle.link_laws.proofs.Putting.{old_is, from_content}
@@ -103,16 +103,16 @@ first_head : (o : Option Refusal) (rest : List (Option Refusal)) → first_fault
 first_head None rest e = (refl, e)
 first_head (Some r) rest e = absurd (cc)
 
-no_first : {A : Type 0} (f : A → Option Refusal) (l : List A) → first_fault (map f l) ≡ None → (x : A) → x ∈ l → f x ≡ None
+pub no_first : {A : Type 0} (f : A → Option Refusal) (l : List A) → first_fault (map f l) ≡ None → (x : A) → x ∈ l → f x ≡ None
 no_first f [] e x i = elim i [ ]
 no_first f (y ∷ l) e x here = (first_head (f y) (map f l) e).0
 no_first f (y ∷ l) e x (there i) = no_first f l (first_head (f y) (map f l) e).1 x i
 
-no_if : (b : Bool) (r : Refusal) (next : Option Refusal) → fault_if b r next ≡ None → (b ≡ false) × (next ≡ None)
+pub no_if : (b : Bool) (r : Refusal) (next : Option Refusal) → fault_if b r next ≡ None → (b ≡ false) × (next ≡ None)
 no_if true r next e = absurd (cc)
 no_if false r next e = (refl, e)
 
-no_at : (f : ℕ → Refusal) (o : Option ℕ) (next : Option Refusal) → fault_at f o next ≡ None → (o ≡ None) × (next ≡ None)
+pub no_at : (f : ℕ → Refusal) (o : Option ℕ) (next : Option Refusal) → fault_at f o next ≡ None → (o ≡ None) × (next ≡ None)
 no_at f None next e = (refl, e)
 no_at f (Some k) next e = absurd (cc)
 

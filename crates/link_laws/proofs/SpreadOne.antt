@@ -9,7 +9,7 @@ use Rattle.map_model.specs.Tree.{Whole, Node, at, content, link_at, set_at, is_o
 use Rattle.map_model.specs.Edits.{renumber}
 use Rattle.map_model.specs.Shape.{Shape}
 use Rattle.map_model.specs.Below.{Below}
-use Rattle.map_model.specs.Commands.{Refusal}
+use Rattle.map_model.specs.Replies.{Refusal}
 use Rattle.map_model.specs.Links.{at_both, content_agrees, same_counts_of_children, IsOneContent, One, motion_at, leads, image, old_node, spread_fault, put_contents, spread}
 use Rattle.map_model.specs.Links.{OthersAgree}
 use Rattle.map_laws.proofs.Lists.{by_eq, tally-member}
@@ -17,10 +17,10 @@ use Rattle.map_laws.proofs.Skeleton.{list_at}
 use Rattle.map_laws.proofs.Slots.{by_bool}
 use Rattle.map_laws.proofs.Replacing.{tally-numbers_in, tally-numbers_out}
 use Rattle.link_laws.proofs.Contents.{same_content}
-use Rattle.link_laws.specs.Motions.{IsTurn}
+use Rattle.orient48.specs.Laws.{IsTurn}
 use Rattle.link_laws.specs.Spreading.{SpreadOne, SpreadOneLaw}
-use Rattle.link_laws.proofs.Matrices.{back_between, cancelled}
-use Rattle.link_laws.proofs.Carrying.{mapped}
+use Rattle.orient48.proofs.Following.{back_between, cancelled}
+use Rattle.lock_laws.proofs.Steps.{mapped}
 use Rattle.link_laws.proofs.Images.{length-map, image_onto, image_back, images_across}
 use Rattle.link_laws.proofs.Pairs.{Once, once_by}
 use Rattle.link_laws.proofs.Putting.{one_number, from_content}
@@ -28,7 +28,7 @@ use Rattle.link_laws.proofs.Spreading.{Spreads, spreads}
 use Rattle.link_laws.proofs.Ones.{one_by, turns_at, turns_between, member_carries, Linked, linked_of, field, source, in_place, old_ok, old_values, root, cm, fm}
 
 -- ---- other members
-in_filter : (F : ℕ → Bool) (x : ℕ) (l : List ℕ) → x ∈ filter F l → (x ∈ l) × (F x ≡ true)
+pub in_filter : (F : ℕ → Bool) (x : ℕ) (l : List ℕ) → x ∈ filter F l → (x ∈ l) × (F x ≡ true)
 in_filter F x [] i = elim i [ ]
 in_filter F x (y ∷ l) i = by_bool (F y)
     (λ e. first y x l e (subst (λ b. x ∈ cond b (y ∷ filter F l) (filter F l)) e i) (in_filter F x l))
@@ -38,7 +38,7 @@ in_filter F x (y ∷ l) i = by_bool (F y)
     first y x l e here more = (here, e)
     first y x l e (there j) more = let w = more j in (there w.0, w.1)
 
-to_filter : (F : ℕ → Bool) (x : ℕ) (l : List ℕ) → x ∈ l → F x ≡ true → x ∈ filter F l
+pub to_filter : (F : ℕ → Bool) (x : ℕ) (l : List ℕ) → x ∈ l → F x ≡ true → x ∈ filter F l
 to_filter F x [] i e = elim i [ ]
 to_filter F x (y ∷ l) here e = subst (λ b. x ∈ cond b (x ∷ filter F l) (filter F l)) (sym e) here
 to_filter F x (y ∷ l) (there i) e = by_bool (F y)

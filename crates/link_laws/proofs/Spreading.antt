@@ -135,7 +135,7 @@ slot_mark o = unwrap_or (option_map mark_of o) None
 
 -- The old node is the same where the content is.
 module _ (m k : Whole) (h q : ℕ) (same : content k h ≡ content m h) (nodes : (x : ℕ) → x ∈ content m h → at k x ≡ at m x) (here_is : at k q ≡ at m q) where
-  number_same : old_number k h q ≡ old_number m h q
+  pub number_same : old_number k h q ≡ old_number m h q
   number_same = ap (find (λ n. is_one_number (mark_at k n) (mark_at k q))) same
       ∙ find_agree (λ n. is_one_number (mark_at k n) (mark_at k q)) (λ n. is_one_number (mark_at m n) (mark_at m q)) (content m h)
       (λ x i z. is_one_number (slot_mark (nodes x i z)) (slot_mark (here_is z)))
