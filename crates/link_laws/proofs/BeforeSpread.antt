@@ -1,9 +1,9 @@
 -- The map from which edited groups are spread has its shape, command by command.
-use Rattle.std.proofs.Common.{◌≡◌, ℕ, ◌≤◌, List, [], ◌∷◌, flat_map, true, false, cond, ◌&&◌, ◌⊎◌, inl, inr, refl, ap, sym, ◌∙◌, subst, arith, Some, None, option_map, filter}
-use Rattle.std.specs.Prelude.{option_to_list, is_none}
+use Rattle.std.proofs.Common.{Option, ◌≡◌, ℕ, ◌≤◌, List, [], ◌∷◌, flat_map, true, false, cond, ◌&&◌, ◌⊎◌, inl, inr, refl, ap, sym, ◌∙◌, subst, arith, Some, None, option_map, filter}
+use Rattle.std.specs.Prelude.{option_to_list, is_none, is_some}
 use Rattle.std.proofs.lemmas.Bool.{cases_lt, and_parts, and_from}
 use Rattle.algebra.specs.Members.{◌∈◌, there}
-use Rattle.map_model.specs.Tree.{Whole, Node, Kind, at, world, layer, group, entity, brush, up, over, children, among, is_linked, is_kind, is_one_number, kind_of, props_of, with_props, with_frozen, with_mark, format_of, container, all_numbers, numbers_from, content}
+use Rattle.map_model.specs.Tree.{Whole, Node, Link, Kind, link_at, set_at, at, world, layer, group, entity, brush, up, over, children, among, is_linked, is_kind, is_one_number, kind_of, props_of, with_props, with_frozen, with_mark, format_of, container, all_numbers, numbers_from, content}
 use Rattle.map_model.specs.Edits.{renew, each_in_turn, delete, move_all, draw_number}
 use Rattle.map_model.specs.Shape.{Shape}
 use Rattle.map_model.specs.Below.{Below}
@@ -20,11 +20,11 @@ use Rattle.map_laws.proofs.Lists.{tally, tally-member}
 use Rattle.map_laws.proofs.Beneath.{Beneath, itself, under, some_one}
 use Rattle.map_laws.proofs.Forest.{not_none}
 use Rattle.map_laws.proofs.Skeleton.{kind_at, planted, placed_of, not_both, kind_is, is_kind_by}
-use Rattle.map_laws.proofs.Slots.{member_among}
+use Rattle.map_laws.proofs.Slots.{member_among, among_member}
 use Rattle.map_laws.proofs.Placing.{chains}
 use Rattle.map_laws.proofs.Replacing.{tally-numbers_in, tally-numbers_out}
 use Rattle.map_laws.proofs.Pruning.{emptied_by}
-use Rattle.map_laws.proofs.Kept.{Comes, comes_itself}
+use Rattle.map_laws.proofs.Kept.{Comes, comes_itself, old_set}
 use Rattle.map_laws.proofs.InTurn.{MovedAll, beneath_sub}
 use Rattle.link_laws.proofs.Moves.{moved_beneath}
 use Rattle.map_laws.proofs.Refused.{NodesFit, nodes_fit, first_none, each_none, refuse_none}
@@ -37,7 +37,7 @@ use Rattle.link_laws.proofs.Moves.{live_kind}
 use Rattle.map_laws.proofs.Holding.{kind_q, parent_holds}
 use Rattle.link_laws.proofs.Gathers.{group_gathers, tie_gathers}
 use Rattle.map_laws.proofs.Untying.{untie_pruned}
-use Rattle.map_laws.proofs.Renewing.{renew_alike, same_children, same_over}
+use Rattle.map_laws.proofs.Renewing.{linked_is, renew_alike, same_children, same_over}
 use Rattle.map_laws.proofs.Parts.{keeps_props, keeps_frozen}
 use Rattle.link_laws.proofs.Renewals.{new_group}
 use Rattle.link_laws.proofs.Renewals.{new_entity, set_shape, unset_shape, frozen_shape}
@@ -45,10 +45,21 @@ use Rattle.link_laws.proofs.Contents.{SameContent, same_itself}
 use Rattle.link_laws.proofs.Edited.{unpruned, group_linked, delete_content, into_content, ungroup_content, untie_content, not_over_by, in_option}
 use Rattle.link_laws.proofs.Untouched.{over_is}
 use Rattle.link_laws.proofs.Remarked.{tally-filter, filter_member, member_filter, remarked, shape_after, spared_after, all_marked, Unchanged}
-use Rattle.link_laws.proofs.MarkSteps.{same_linked}
+use Rattle.link_laws.proofs.MarkSteps.{same_linked, same_links}
+use Rattle.link_laws.proofs.Pairs.{Once, once_by}
+use Rattle.link_laws.proofs.SpreadOne.{set_linked}
+use Rattle.link_laws.proofs.SpreadEach.{ToSpread}
 use Rattle.link_laws.proofs.Others.{still_one}
-use Rattle.map_model.specs.Links.{One}
+use Rattle.map_model.specs.Links.{One, AllOne}
 use Rattle.link_laws.proofs.Nested.{pruned_beneath, linked_before, apart_by, link_row, not_into_link}
+
+-- A linked group has a set.
+pub linked_set : (m : Whole) (g : ℕ) → is_linked m g ≡ true → (s : ℕ) × (set_at m g ≡ Some s)
+linked_set m g l = by (link_at m g) (sym (linked_is m g) ∙ l)
+  where
+    by : (o : Option Link) → is_some o ≡ true → (s : ℕ) × (option_map (λ l. l.set) o ≡ Some s)
+    by None e = absurd (cc)
+    by (Some x) e = (x.set, refl)
 
 -- What is known of the map k that a command's own changes make of m.
 pub record Result (m : Whole) (c : Command) (k : Whole) : Type 0 where
@@ -56,7 +67,7 @@ pub record Result (m : Whole) (c : Command) (k : Whole) : Type 0 where
   pub content : (h : ℕ) → is_linked m h ≡ true → (h ∈ flat_map (edits m c) (named c) → ⊥) → (j : Kind) → kind_at (prune m c k) h ≡ Some j → SameContent h m (prune m c k)
   pub before : (h g : ℕ) → is_linked m h ≡ true → is_linked m g ≡ true → Beneath (up (prune m c k)) h g → Beneath (up m) h g
 
-numbers_once : (n q : ℕ) → tally q (numbers_from 0 n) ≤ 1
+pub numbers_once : (n q : ℕ) → tally q (numbers_from 0 n) ≤ 1
 numbers_once n q = elim (cases_lt q n) [ inl lt ↦ omega (arith, tally-numbers_in 0 n q (omega arith) (omega arith)) | inr far ↦ omega (arith, tally-numbers_out 0 n q (inr (omega arith))) ]
 
 -- The named nodes are there.
@@ -132,46 +143,29 @@ module _ (m : Whole) (c : Command) (k : Whole) (shape : Shape m) (rooted : (n : 
       (sym (same_linked (all_marked m P gs shape r.pruned.placed r.pruned.comes apart linked_gs once_gs spared) h) ∙ ap (λ x. is_linked x h) (sym same) ∙ l)
       (λ i. out (subst (λ x. h ∈ x) (sym is) i)))
 
--- A command that changes one node where no other sees it: no mark is drawn.
-turn_same : {A : Type 0} (e f : A → Whole → Whole) → ((x : A) (k : Whole) → e x k ≡ f x k) → (xs : List A) (k : Whole) → each_in_turn e xs k ≡ each_in_turn f xs k
-turn_same e f h [] k = refl
-turn_same e f h (x ∷ xs) k = ap (each_in_turn e xs) (h x k) ∙ turn_same e f h xs (f x k)
+  all_links : (q : ℕ) → link_at (before_spread m c k) q ≡ link_at (prune m c k) q
+  all_links q = ap (λ x. link_at x q) same ∙ same_links (all_marked m P gs shape r.pruned.placed r.pruned.comes apart linked_gs once_gs spared) q
 
-marked_before : (m k : Whole) → ((n : ℕ) → over m n ≡ over k n) → (gs : List ℕ) (l : Whole) → marked m gs l ≡ marked k gs l
-marked_before m k h gs l = turn_same (mark_content m) (mark_content k) (λ g w. turn_same (mark_new m g) (mark_new k g) (λ n w.
-    ap (λ o. cond (is_one_number o (Some g)) w (renew n (with_mark (Some w.next)) (draw_number w))) (h n)) (content w g) w) gs (each_in_turn unmark (all_numbers l) l)
+  set_before : (q s : ℕ) → set_at (before_spread m c k) q ≡ Some s → set_at m q ≡ Some s
+  set_before q s e = old_set r.pruned.comes q s (sym (ap (option_map (λ l. l.set)) (all_links q)) ∙ e)
 
-pub renewed_shape : (m : Whole) (c : Command) (n : ℕ) (g : Node → Node) → KeepsAll g → Shape (renew n g m) → Shape m →
-    ((k : Whole) → edited m c k ≡ filter (λ g. is_linked k g && among g (flat_map (edits m c) (named c))) (all_numbers m)) → (before_spread m c (renew n g m)).next ≤ 65536 → Shape (before_spread m c (renew n g m))
-renewed_shape m c n g keeps after shape is most =
-    subst Shape (sym same) (shape_after k k gs after placed comes after.marks.not_nested linked_gs once_gs (λ h l out. same_itself h k) (λ g is none. after.standing.no_empty_group g is none)
-    (subst (λ x. x ≤ 65536) (ap (λ x. x.next) same) most))
-  where
-    k : Whole
-    k = renew n g m
+  linked_all : (g : ℕ) → g ∈ edited m c (prune m c k) → is_linked (before_spread m c k) g ≡ true
+  linked_all g i = linked_is (before_spread m c k) g ∙ ap is_some (all_links g) ∙ sym (linked_is (prune m c k) g) ∙ linked_gs g (subst (λ l. g ∈ l) is i)
 
-    gs : List ℕ
-    gs = filter (λ a. is_linked (renew n g m) a && among a (flat_map (edits m c) (named c))) (all_numbers m)
+  named_over : (g : ℕ) → g ∈ edited m c (prune m c k) → g ∈ flat_map (edits m c) (named c)
+  named_over g i = among_member g (flat_map (edits m c) (named c)) (and_parts (is_linked (prune m c k) g) (among g (flat_map (edits m c) (named c)))
+      (filter_member (λ g. is_linked (prune m c k) g && among g (flat_map (edits m c) (named c))) g (all_numbers m) (subst (λ l. g ∈ l) is i)).1).1
 
-    placed : Placed (renew n g m)
-    placed = placed_of after.standing
-
-    comes : Comes (format_of (renew n g m)) (renew n g m) (renew n g m)
-    comes = comes_itself (format_of (renew n g m)) (renew n g m) after.numbers.nodes
-
-    pruned : prune m c (renew n g m) ≡ renew n g m
-    pruned = prune_none m c (renew n g m) (λ q. not_emptied m (renew n g m) q (λ had j i s. had (sym (same_children (renew_alike m n g keeps) q) ∙ s)))
-
-    linked_gs : (a : ℕ) → a ∈ filter (λ a. is_linked (renew n g m) a && among a (flat_map (edits m c) (named c))) (all_numbers m) → is_linked (renew n g m) a ≡ true
-    linked_gs a i = (and_parts (is_linked (renew n g m) a) (among a (flat_map (edits m c) (named c))) (filter_member (λ a. is_linked (renew n g m) a && among a (flat_map (edits m c) (named c))) a (all_numbers m) i).1).0
-
-    once_gs : (a : ℕ) → tally a (filter (λ a. is_linked (renew n g m) a && among a (flat_map (edits m c) (named c))) (all_numbers m)) ≤ 1
-    once_gs a = le_then (tally-filter (λ a. is_linked (renew n g m) a && among a (flat_map (edits m c) (named c))) a (all_numbers m)) (numbers_once m.next a)
-      where
-        le_then : {a b : ℕ} → a ≤ b → b ≤ 1 → a ≤ 1
-        le_then e f = omega arith
-
-    same : before_spread m c (renew n g m) ≡ Rattle.link_laws.proofs.Remarked.M (renew n g m) (renew n g m) (filter (λ a. is_linked (renew n g m) a && among a (flat_map (edits m c) (named c))) (all_numbers m)) after placed comes after.marks.not_nested linked_gs once_gs (λ h l out. same_itself h (renew n g m))
-    same = ap (λ p. marked m (edited m c p) p) pruned ∙ ap (λ l. marked m l (renew n g m)) (is (renew n g m))
-        ∙ marked_before m (renew n g m) (λ q. sym (same_over (renew_alike m n g keeps) q)) (filter (λ a. is_linked (renew n g m) a && among a (flat_map (edits m c) (named c))) (all_numbers m)) (renew n g m)
-        ∙ remarked (renew n g m) (renew n g m) (filter (λ a. is_linked (renew n g m) a && among a (flat_map (edits m c) (named c))) (all_numbers m)) after placed comes after.marks.not_nested linked_gs once_gs (λ h l out. same_itself h (renew n g m))
+  -- The edited groups can be spread.
+  pub to_spread : AllOne m → ((g h t : ℕ) → g ∈ flat_map (edits m c) (named c) → h ∈ flat_map (edits m c) (named c) → set_at m g ≡ Some t → set_at m h ≡ Some t → g ≡ h) →
+      empty_link m c (prune m c k) ≡ None → (before_spread m c k).next ≤ 65536 → ToSpread (before_spread m c k) (edited m c (prune m c k))
+  to_spread all one_edited empty most = record {
+    shape = marked_shape empty most;
+    linked = linked_all;
+    distinct = subst Once (sym is) (once_by gs once_gs);
+    apart = λ g h i j e. let w = linked_set (before_spread m c k) g (linked_all g i) in
+        one_edited g h w.0 (named_over g i) (named_over h j) (set_before g w.0 w.1) (set_before h w.0 (sym e ∙ w.1));
+    one = λ s h j e f ne oh oj. still_one m (before_spread m c k) h j (unchanged h (set_linked (before_spread m c k) h s e) oh) (unchanged j (set_linked (before_spread m c k) j s f) oj)
+        (group_linked (before_spread m c k) h (set_linked (before_spread m c k) h s e)) (group_linked (before_spread m c k) j (set_linked (before_spread m c k) j s f))
+        (all s h j (set_before h s e) (set_before j s f) ne);
+  }

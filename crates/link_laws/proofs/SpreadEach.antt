@@ -19,7 +19,7 @@ use Rattle.link_laws.proofs.Ones.{Linked, linked_of, field, source, root, cm, fm
 use Rattle.link_laws.proofs.SpreadOne.{other_is, set_linked, once_filter, once_numbers, spread_cases, all_one}
 use Rattle.link_laws.proofs.SpreadTree.{tree_kept}
 use Rattle.link_laws.proofs.SpreadNodes.{each_spread}
-use Rattle.link_laws.proofs.SpreadNumbers.{map_same, images_same, contents_next, numbers_pass}
+use Rattle.link_laws.proofs.SpreadNumbers.{sum_first, map_same, images_same, contents_next, numbers_pass}
 use Rattle.link_laws.proofs.Agreeing.{agree_from_one}
 
 -- ---- one spread
@@ -177,5 +177,5 @@ spread_each b right [] m n t e most =
     subst (λ n. Shape n × AllOne n) (ok_is e) (t.shape, (λ s h k f i ne. t.one s h k f i ne (λ x. elim x [ ]) (λ x. elim x [ ])))
 spread_each b right (g ∷ gs) m n t e most =
     let w = all_cases b g gs m n e in
-    let a = after_one b m w.0 g right t.shape (t.linked g here) (agrees m g gs t) w.1 (omega (arith, most)) in
-    spread_each b right gs w.0 n (to_spread_next b right m w.0 g gs t a) w.2 (omega (arith, most, a.next, images_next b right m w.0 g gs t a))
+    let a = after_one b m w.0 g right t.shape (t.linked g here) (agrees m g gs t) w.1 (omega (arith, most, sum_first (images_of m) g gs)) in
+    spread_each b right gs w.0 n (to_spread_next b right m w.0 g gs t a) w.2 (omega (arith, most, sum_first (images_of m) g gs, a.next, images_next b right m w.0 g gs t a))

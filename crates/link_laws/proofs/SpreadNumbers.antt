@@ -1,6 +1,7 @@
 -- How many numbers a spread draws is told by the map before it.
 use Rattle.std.proofs.Common.{◌≡◌, ◌≢◌, ℕ, zero, suc, ◌+◌, ◌-◌, ◌≤◌, List, [], ◌∷◌, map, filter, length, Bool, true, false, cond, refl, ap, sym, ◌∙◌, subst, arith, Option, Some, None}
 use Rattle.std.specs.Prelude.{is_none, sum}
+use Rattle.std.specs.List.{fold}
 use Rattle.algebra.specs.Members.{◌∈◌, here, there}
 use Rattle.map_model.specs.Tree.{Whole, at, content, other_members, all_numbers, numbers_from}
 use Rattle.map_model.specs.Links.{new_images, old_number, put_content, put_contents}
@@ -22,6 +23,22 @@ images_same m k g p cg ng cp np =
     ap (λ l. length (filter (λ n. is_none (old_number k p n)) l)) cg
     ∙ ap length (filter_same (λ n. is_none (old_number k p n)) (λ n. is_none (old_number m p n)) (content m g) (λ n i. ap is_none (number_same m k p n cp np (ng n i))))
 
+zero_first : (d : ℕ) → 0 + d ≡ d
+zero_first d = omega arith
+
+add_up : (a b c d : ℕ) → c ≡ d → a + b + c ≡ a + (b + d)
+add_up a b c d e = omega (arith, e)
+
+fold_from : (xs : List ℕ) (a : ℕ) → fold ◌+◌ a xs ≡ a + fold ◌+◌ 0 xs
+fold_from [] a = omega arith
+fold_from (x ∷ xs) a = fold_from xs (a + x) ∙ moved a x (fold ◌+◌ 0 xs) (fold ◌+◌ (0 + x) xs) (fold_from xs (0 + x))
+  where
+    moved : (a x s t : ℕ) → t ≡ 0 + x + s → a + x + s ≡ a + t
+    moved a x s t e = omega (arith, e)
+
+pub sum_first : (f : ℕ → ℕ) (x : ℕ) (xs : List ℕ) → sum (map f (x ∷ xs)) ≡ f x + sum (map f xs)
+sum_first f x xs = fold_from (map f xs) (0 + f x) ∙ ap (λ n. n + sum (map f xs)) (zero_first (f x))
+
 -- The numbers of one spread.
 pub contents_next : (G : ℕ → Type 0) (g : ℕ) (hs : List ℕ) (m : Whole) → Field G m → Source m g → G g → ((p : ℕ) → p ∈ hs → G p) → Once hs → (g ∈ hs → ⊥) →
     (put_contents g hs m).next ≡ m.next + sum (map (new_images m g) hs)
@@ -29,11 +46,9 @@ contents_next G g [] m F S i all o out = omega arith
 contents_next G g (h ∷ hs) m F S i all o out =
     let ne : g ≢ h = λ e. out (first g e) in
     let j = all h here in
-    omega (
-      arith,
-      contents_next G g hs (put_content g h m) (field_next G m F g h i j ne S) (source_next G m F g h i j ne S) i (λ p x. all p (there x)) o.1 (λ x. out (there x)),
-      ap sum (map_same (new_images (put_content g h m) g) (new_images m g) hs (λ p x. same ne p x)),
-    )
+    contents_next G g hs (put_content g h m) (field_next G m F g h i j ne S) (source_next G m F g h i j ne S) i (λ p x. all p (there x)) o.1 (λ x. out (there x))
+    ∙ add_up m.next (new_images m g h) (sum (map (new_images (put_content g h m) g) hs)) (sum (map (new_images m g) hs)) (ap sum (map_same (new_images (put_content g h m) g) (new_images m g) hs (λ p x. same ne p x)))
+    ∙ ap (λ n. m.next + n) (sym (sum_first (new_images m g) h hs))
   where
     first : (p : ℕ) → p ≡ h → p ∈ (h ∷ hs)
     first p e = rw e here
@@ -51,9 +66,12 @@ none_pass t s zero h = refl
 none_pass t s (suc d) h =
     (λ i. cond (h s (omega arith) i) (s ∷ filter t (numbers_from (s + 1) d)) (filter t (numbers_from (s + 1) d))) ∙ none_pass t (s + 1) d (λ q l. h q (omega (arith, l)))
 
+suc_first : (a d : ℕ) → suc a + d ≡ suc (a + d)
+suc_first a d = omega arith
+
 more_numbers : (t : ℕ → Bool) (s a d : ℕ) → ((q : ℕ) → s + a ≤ q → t q ≡ false) → filter t (numbers_from s (a + d)) ≡ filter t (numbers_from s a)
-more_numbers t s zero d h = none_pass t s d (λ q l. h q (omega (arith, l)))
-more_numbers t s (suc a) d h = ap (λ l. cond (t s) (s ∷ l) l) (more_numbers t (s + 1) a d (λ q l. h q (omega (arith, l))))
+more_numbers t s zero d h = ap (λ n. filter t (numbers_from s n)) (zero_first d) ∙ none_pass t s d (λ q l. h q (omega (arith, l)))
+more_numbers t s (suc a) d h = ap (λ n. filter t (numbers_from s n)) (suc_first a d) ∙ ap (λ l. cond (t s) (s ∷ l) l) (more_numbers t (s + 1) a d (λ q l. h q (omega (arith, l))))
 
 pub numbers_pass : (t : ℕ → Bool) (a c : ℕ) → a ≤ c → ((q : ℕ) → a ≤ q → t q ≡ false) → filter t (numbers_from 0 c) ≡ filter t (numbers_from 0 a)
 numbers_pass t a c le h = ap (λ n. filter t (numbers_from 0 n)) (split le) ∙ more_numbers t 0 a (c - a) (λ q l. h q (omega (arith, l)))
