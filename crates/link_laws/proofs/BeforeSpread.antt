@@ -15,7 +15,6 @@ use Rattle.map_model.specs.Commands.{IsGood, Command, Settings, Delete, Into, Un
 use Rattle.map_model.specs.Replies.{EmptyLink, NestedLink, NoNode}
 use Rattle.map_model.specs.Rows.{named, no_node, edits, rows, first, refuse, at_each, is_in_link, holds_link}
 use Rattle.map_laws.specs.Placed.{Placed, KeepsAll, can_hold}
-use Rattle.link_laws.specs.Laws.{OthersLaw, MarkedLaw}
 use Rattle.map_laws.proofs.Lists.{tally, tally-member}
 use Rattle.map_laws.proofs.Beneath.{Beneath, itself, under, some_one}
 use Rattle.map_laws.proofs.Forest.{not_none}

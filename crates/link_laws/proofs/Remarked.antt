@@ -91,7 +91,7 @@ unmark_marked m n = by (is_none (over m n))
     by true = renew_marked m n None
     by false = marked_itself m
 
-unmarks_marked : (ns : List ℕ) (m : Whole) → Marked m (each_in_turn unmark ns m)
+pub unmarks_marked : (ns : List ℕ) (m : Whole) → Marked m (each_in_turn unmark ns m)
 unmarks_marked [] m = marked_itself m
 unmarks_marked (n ∷ ns) m = marked_then (unmark_marked m n) (unmarks_marked ns (unmark n m))
 
@@ -102,7 +102,7 @@ unmark_next m n = by (is_none (over m n))
     by true = refl
     by false = refl
 
-unmarks_next : (ns : List ℕ) (m : Whole) → (each_in_turn unmark ns m).next ≡ m.next
+pub unmarks_next : (ns : List ℕ) (m : Whole) → (each_in_turn unmark ns m).next ≡ m.next
 unmarks_next [] m = refl
 unmarks_next (n ∷ ns) m = unmarks_next ns (unmark n m) ∙ unmark_next m n
 
@@ -116,7 +116,7 @@ unmark_kept m n q g e = by_eq q n
     by true ne = mark-renew_other m n q None ne
     by false ne = refl
 
-unmarks_kept : (ns : List ℕ) (m : Whole) → Placed m → Bounded m → (q g : ℕ) → over m q ≡ Some g → mark_at (each_in_turn unmark ns m) q ≡ mark_at m q
+pub unmarks_kept : (ns : List ℕ) (m : Whole) → Placed m → Bounded m → (q g : ℕ) → over m q ≡ Some g → mark_at (each_in_turn unmark ns m) q ≡ mark_at m q
 unmarks_kept [] m placed bound q g e = refl
 unmarks_kept (n ∷ ns) m placed bound q g e =
     let a = unmark_marked m n in
@@ -131,7 +131,7 @@ unmark_at m n q g e = by_eq q n
     by true ne = at-renew_other m n q (with_mark None) ne
     by false ne = refl
 
-unmarks_at : (ns : List ℕ) (m : Whole) → Placed m → Bounded m → (q g : ℕ) → over m q ≡ Some g → at (each_in_turn unmark ns m) q ≡ at m q
+pub unmarks_at : (ns : List ℕ) (m : Whole) → Placed m → Bounded m → (q g : ℕ) → over m q ≡ Some g → at (each_in_turn unmark ns m) q ≡ at m q
 unmarks_at [] m placed bound q g e = refl
 unmarks_at (n ∷ ns) m placed bound q g e =
     let a = unmark_marked m n in
@@ -158,11 +158,11 @@ unmark_none m n q e = by_eq q n
     by_other true ne = mark-renew_other m n q None ne ∙ e
     by_other false ne = e
 
-unmarks_stay : (ns : List ℕ) (m : Whole) (q : ℕ) → mark_at m q ≡ None → mark_at (each_in_turn unmark ns m) q ≡ None
+pub unmarks_stay : (ns : List ℕ) (m : Whole) (q : ℕ) → mark_at m q ≡ None → mark_at (each_in_turn unmark ns m) q ≡ None
 unmarks_stay [] m q e = e
 unmarks_stay (n ∷ ns) m q e = unmarks_stay ns (unmark n m) q (unmark_none m n q e)
 
-unmarks_none : (ns : List ℕ) (m : Whole) → Placed m → Bounded m → (q : ℕ) → over m q ≡ None → q ∈ ns → mark_at (each_in_turn unmark ns m) q ≡ None
+pub unmarks_none : (ns : List ℕ) (m : Whole) → Placed m → Bounded m → (q : ℕ) → over m q ≡ None → q ∈ ns → mark_at (each_in_turn unmark ns m) q ≡ None
 unmarks_none [] m placed bound q e i = elim i [ ]
 unmarks_none (n ∷ ns) m placed bound q e here = unmarks_stay ns (unmark q m) q (ap (λ b. mark_at (cond b (renew q (with_mark None) m) m) q) (ap is_none e) ∙ mark_none m q)
 unmarks_none (n ∷ ns) m placed bound q e (there i) =

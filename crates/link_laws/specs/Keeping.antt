@@ -1,13 +1,26 @@
 -- What is asserted of commands in maps with linked groups.
-use Rattle.std.specs.Prelude.{◌≡◌, Ok}
+use Rattle.std.specs.Prelude.{◌≡◌, ℕ, IsTrue, List, Ok}
 use Rattle.map_model.specs.Tree.{Whole}
 use Rattle.map_model.specs.Below.{Below, IsRight}
 use Rattle.map_model.specs.Shape.{Shape}
 use Rattle.map_model.specs.Links.{AllOne}
-use Rattle.map_model.specs.Commands.{Command, IsGood, Settings}
+use Rattle.map_model.specs.Commands.{Command, IsGood, Settings, Material, Protect}
+use Rattle.map_laws.specs.TreeCommands.{is_tree_command}
 use Rattle.map_model.specs.Apply.{Applied, apply}
 
 -- A map of which each two members of each set are one content is one again after the command: it has the shape of maps, and each two members
 -- of each set are one content.
 abbrev pub KeepsAllOne : Command → Type 0
 KeepsAllOne c = (b : Below) (s : Settings) (m : Whole) (a : Applied) → IsRight b → IsGood c → Shape m → AllOne m → apply b s m c ≡ Ok a → Shape a.map × AllOne a.map
+
+-- The commands of the tree keep it.
+abbrev pub TreeKeepsLaw : Type 0
+TreeKeepsLaw = (c : Command) → IsTrue (is_tree_command c) → KeepsAllOne c
+
+-- The command that sets the material of new faces leaves the map as it is, and keeps it.
+abbrev pub MaterialKeepsLaw : Type 0
+MaterialKeepsLaw = (name : List ℕ) → KeepsAllOne (Material name)
+
+-- The command that protects a key of an entity keeps it.
+abbrev pub ProtectKeepsLaw : Type 0
+ProtectKeepsLaw = (n : ℕ) (key : List ℕ) → KeepsAllOne (Protect n key)
