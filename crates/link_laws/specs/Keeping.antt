@@ -1,10 +1,10 @@
 -- What is asserted of commands in maps with linked groups.
-use Rattle.std.specs.Prelude.{◌≡◌, ℕ, IsTrue, List, Ok}
+use Rattle.std.specs.Prelude.{◌≡◌, ℕ, ℤ, IsTrue, List, Ok}
 use Rattle.map_model.specs.Tree.{Whole}
 use Rattle.map_model.specs.Below.{Below, IsRight}
 use Rattle.map_model.specs.Shape.{Shape}
 use Rattle.map_model.specs.Links.{AllOne}
-use Rattle.map_model.specs.Commands.{Command, IsGood, Settings, Material, Protect}
+use Rattle.map_model.specs.Commands.{Command, IsGood, Settings, Material, Protect, Unlink, Copy}
 use Rattle.map_laws.specs.TreeCommands.{is_tree_command}
 use Rattle.map_model.specs.Apply.{Applied, apply}
 
@@ -24,3 +24,11 @@ MaterialKeepsLaw = (name : List ℕ) → KeepsAllOne (Material name)
 -- The command that protects a key of an entity keeps it.
 abbrev pub ProtectKeepsLaw : Type 0
 ProtectKeepsLaw = (n : ℕ) (key : List ℕ) → KeepsAllOne (Protect n key)
+
+-- The command that takes a group out of its set keeps it.
+abbrev pub UnlinkKeepsLaw : Type 0
+UnlinkKeepsLaw = (g : ℕ) → KeepsAllOne (Unlink g)
+
+-- The command that copies nodes keeps it.
+abbrev pub CopyKeepsLaw : Type 0
+CopyKeepsLaw = (shift : List ℤ) (ns : List ℕ) → KeepsAllOne (Copy shift ns)
