@@ -21,6 +21,7 @@ use Rattle.map_laws.specs.Placed.{Placed, NoEmptyGroup}
 use Rattle.map_laws.proofs.Lists.{tally, tally-no_member}
 use Rattle.map_laws.proofs.Beneath.{Beneath, itself, under}
 use Rattle.map_laws.proofs.Forest.{not_none}
+use Rattle.map_laws.proofs.Nodes.{says_parent}
 use Rattle.map_laws.proofs.Skeleton.{kind_at, placed_of}
 use Rattle.map_laws.proofs.Placing.{no_slot}
 use Rattle.map_laws.proofs.Kept.{Comes}
@@ -153,7 +154,7 @@ copy_keeps shift ns b s m a right good shape all e =
     let kinds = λ (n : ℕ) (i : n ∈ ns). test_kind is_movable m n (fit.fit n i) in
     let rooted = λ (n : ℕ) (i : n ∈ ns). rooted_at m (placed_of shape.standing) shape.numbers.nodes n (kinds n i).0 (kinds n i).1 in
     let once = λ (n : ℕ). by_member n ns (λ i. fit.once n i) (λ none. omega (arith, tally-no_member n ns none)) in
-    let says = λ (n : ℕ) (i : n ∈ ns). ((kinds n i).0, (kinds n i).1, movable_says (kinds n i).0 (kinds n i).2) in
+    let says : (n : ℕ) → n ∈ ns → (k : Kind) × (kind_at m n ≡ Some k) × (says_parent k ≡ true) = λ n i. ((kinds n i).0, (kinds n i).1, movable_says (kinds n i).0 (kinds n i).2) in
     let apart = tops_apart m (placed_of shape.standing) shape.numbers.nodes ns rooted fit.apart once in
     let can = can_be_copied b s m shift ns r.points r.world r.offsets in
     let after = copies_all b s.lock (motion_of (Copy shift ns)) m ns right refl shape says apart can ns (λ x i. i) m (begins b s.lock (motion_of (Copy shift ns)) m ns right refl shape says apart can) in
