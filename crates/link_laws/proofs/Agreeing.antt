@@ -5,8 +5,7 @@ use Rattle.std.proofs.lemmas.Bool.{and_parts, true≢false}
 use Rattle.algebra.specs.Members.{◌∈◌, here, there}
 use Rattle.map_model.specs.Tree.{Whole, Node, at, content, kind_of, mark_of, mark_at, same_kind}
 use Rattle.map_model.specs.Shape.{Shape}
-use Rattle.map_model.specs.Links.{same_mark, same_place, same_counts_of_children, values_agree, One, leads}
-use Rattle.map_model.specs.Links.{AgreeInValues}
+use Rattle.map_model.specs.Links.{same_mark, same_place, same_counts_of_children, values_agree, One, leads, AgreeInValues}
 use Rattle.link_laws.specs.Spreading.{OthersLaw}
 use Rattle.link_laws.proofs.Putting.{one_number}
 use Rattle.link_laws.proofs.Ones.{Both, Linked, over_content}

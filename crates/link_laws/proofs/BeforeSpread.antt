@@ -1,47 +1,31 @@
 -- The map from which edited groups are spread has its shape, command by command.
-use Rattle.std.proofs.Common.{Option, ◌≡◌, ℕ, ◌≤◌, List, [], ◌∷◌, flat_map, true, false, cond, ◌&&◌, ◌⊎◌, inl, inr, refl, ap, sym, ◌∙◌, subst, arith, Some, None, option_map, filter}
+use Rattle.std.proofs.Common.{Option, ◌≡◌, ℕ, ◌≤◌, List, [], flat_map, true, ◌&&◌, inl, inr, refl, ap, sym, ◌∙◌, subst, arith, Some, None, option_map, filter}
 use Rattle.std.specs.Prelude.{option_to_list, is_none, is_some}
 use Rattle.std.proofs.lemmas.Bool.{cases_lt, and_parts, and_from}
-use Rattle.algebra.specs.Members.{◌∈◌, there}
-use Rattle.map_model.specs.Tree.{Whole, Node, Link, Kind, link_at, set_at, at, world, layer, group, entity, brush, up, over, children, among, is_linked, is_kind, is_one_number, kind_of, props_of, with_props, with_frozen, with_mark, format_of, container, all_numbers, numbers_from, content}
-use Rattle.map_model.specs.Edits.{renew, each_in_turn, delete, move_all, draw_number}
+use Rattle.algebra.specs.Members.{◌∈◌}
+use Rattle.map_model.specs.Tree.{Whole, Link, Kind, link_at, set_at, at, group, up, over, children, among, is_linked, is_kind, kind_of, format_of, all_numbers, numbers_from}
 use Rattle.map_model.specs.Shape.{Shape}
 use Rattle.map_model.specs.Below.{Below}
-use Rattle.map_model.specs.Props.{set_value, without_key}
-use Rattle.map_model.specs.Own.{own, ungroup, untie}
-use Rattle.map_model.specs.Apply.{prune, edited, marked, mark_content, mark_new, unmark, before_spread, empty_link, is_emptied}
-use Rattle.map_laws.proofs.Texts.{name_value}
-use Rattle.map_model.specs.Commands.{IsGood, Command, Settings, Delete, Into, Ungroup, Untie, Tie, Set, Unset, Freeze, Thaw, Group as MakeGroup}
-use Rattle.map_model.specs.Replies.{EmptyLink, NestedLink, NoNode}
-use Rattle.map_model.specs.Rows.{named, no_node, edits, rows, first, refuse, at_each, is_in_link, holds_link}
-use Rattle.map_laws.specs.Placed.{Placed, KeepsAll, can_hold}
+use Rattle.map_model.specs.Apply.{prune, edited, marked, before_spread, empty_link, is_emptied}
+use Rattle.map_model.specs.Commands.{Command, Settings}
+use Rattle.map_model.specs.Replies.{EmptyLink, NoNode}
+use Rattle.map_model.specs.Rows.{named, no_node, edits, rows, first, refuse, at_each}
+use Rattle.map_laws.specs.Placed.{Placed}
 use Rattle.map_laws.proofs.Lists.{tally, tally-member}
-use Rattle.map_laws.proofs.Beneath.{Beneath, itself, under, some_one}
+use Rattle.map_laws.proofs.Beneath.{Beneath}
 use Rattle.map_laws.proofs.Forest.{not_none}
-use Rattle.map_laws.proofs.Skeleton.{kind_at, planted, placed_of, not_both, kind_is, is_kind_by}
+use Rattle.map_laws.proofs.Skeleton.{kind_at, planted, placed_of, not_both, is_kind_by}
 use Rattle.map_laws.proofs.Slots.{member_among, among_member}
 use Rattle.map_laws.proofs.Placing.{chains}
 use Rattle.map_laws.proofs.Replacing.{tally-numbers_in, tally-numbers_out}
 use Rattle.map_laws.proofs.Pruning.{emptied_by}
-use Rattle.map_laws.proofs.Kept.{Comes, comes_itself, old_set}
-use Rattle.map_laws.proofs.InTurn.{MovedAll, beneath_sub}
-use Rattle.link_laws.proofs.Moves.{moved_beneath}
-use Rattle.map_laws.proofs.Refused.{NodesFit, nodes_fit, first_none, each_none, refuse_none}
-use Rattle.map_laws.proofs.Pruned.{Pruned, in_chain, rooted_at, not_emptied, prune_none}
-use Rattle.map_laws.proofs.Deleting.{delete_pruned, deleted}
-use Rattle.map_laws.proofs.GoingInto.{into_pruned, into_gone, into_rooted, not_above_place}
-use Rattle.map_laws.proofs.Dissolving.{ungroup_pruned}
-use Rattle.link_laws.proofs.Freed.{ungrouped, untied}
+use Rattle.map_laws.proofs.Kept.{old_set}
+use Rattle.map_laws.proofs.Refused.{first_none, each_none, refuse_none}
+use Rattle.map_laws.proofs.Pruned.{Pruned, in_chain, rooted_at}
 use Rattle.link_laws.proofs.Moves.{live_kind}
-use Rattle.map_laws.proofs.Holding.{kind_q, parent_holds}
-use Rattle.link_laws.proofs.Gathers.{group_gathers, tie_gathers}
-use Rattle.map_laws.proofs.Untying.{untie_pruned}
-use Rattle.map_laws.proofs.Renewing.{linked_is, renew_alike, same_children, same_over}
-use Rattle.map_laws.proofs.Parts.{keeps_props, keeps_frozen}
-use Rattle.link_laws.proofs.Renewals.{new_group}
-use Rattle.link_laws.proofs.Renewals.{new_entity, set_shape, unset_shape, frozen_shape}
-use Rattle.link_laws.proofs.Contents.{SameContent, same_itself}
-use Rattle.link_laws.proofs.Edited.{unpruned, group_linked, delete_content, into_content, ungroup_content, untie_content, not_over_by, in_option}
+use Rattle.map_laws.proofs.Renewing.{linked_is}
+use Rattle.link_laws.proofs.Contents.{SameContent}
+use Rattle.link_laws.proofs.Edited.{group_linked, in_option}
 use Rattle.link_laws.proofs.Untouched.{over_is}
 use Rattle.link_laws.proofs.Remarked.{tally-filter, filter_member, member_filter, remarked, shape_after, spared_after, all_marked, Unchanged}
 use Rattle.link_laws.proofs.MarkSteps.{same_linked, same_links}
@@ -49,8 +33,8 @@ use Rattle.link_laws.proofs.Pairs.{Once, once_by}
 use Rattle.link_laws.proofs.SpreadOne.{set_linked}
 use Rattle.link_laws.proofs.SpreadEach.{ToSpread}
 use Rattle.link_laws.proofs.Others.{still_one}
-use Rattle.map_model.specs.Links.{One, AllOne}
-use Rattle.link_laws.proofs.Nested.{pruned_beneath, linked_before, apart_by, link_row, not_into_link}
+use Rattle.map_model.specs.Links.{AllOne}
+use Rattle.link_laws.proofs.Nested.{linked_before, apart_by}
 
 -- A linked group has a set.
 pub linked_set : (m : Whole) (g : ℕ) → is_linked m g ≡ true → (s : ℕ) × (set_at m g ≡ Some s)

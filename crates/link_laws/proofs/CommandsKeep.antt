@@ -1,5 +1,4 @@
 -- Each command that the laws speak of keeps one content for each two members of each set.
-use Rattle.std.proofs.Common.{List, ◌∷◌}
 use Rattle.map_model.specs.Commands.{Delete, Entity, Set, Unset, Tie, Untie, Layer, Freeze, Thaw, Group, Ungroup, Into}
 use Rattle.link_laws.specs.Keeping.{TreeKeepsLaw}
 use Rattle.link_laws.proofs.TreeKeeps.{delete_keeps, into_keeps, ungroup_keeps, untie_keeps, group_keeps, tie_keeps}

@@ -1,24 +1,23 @@
 -- copy keeps the sets of linked groups.
-use Rattle.std.proofs.Common.{◌≡◌, ℕ, ◌+◌, ◌<◌, ◌≤◌, List, ℤ, [], ◌∷◌, map, flat_map, filter, Bool, true, false, cond, not, ◌&&◌, ◌||◌, inl, inr, refl, ap, sym, ◌∙◌, subst, arith, Option, Some, None, option_map}
+use Rattle.std.proofs.Common.{◌≡◌, ℕ, ◌+◌, ◌<◌, List, ℤ, [], ◌∷◌, map, flat_map, Bool, true, false, cond, not, ◌&&◌, ◌||◌, inl, inr, refl, ap, sym, ◌∙◌, subst, arith, Option, Some, None, option_map}
 use Rattle.std.specs.Prelude.{is_none, unwrap_or, option_to_list, option_and_then}
 use Rattle.std.proofs.lemmas.Bool.{cases_lt}
 use Rattle.algebra.specs.Members.{◌∈◌, here, there}
 use Rattle.exact_geom.specs.Planes.{half_space, first_out_of_range}
 use Rattle.map_model.specs.Faces.{Face}
 use Rattle.map_model.specs.Motions.{moved_plane}
-use Rattle.map_model.specs.Tree.{Whole, Node, World, Layer, Group, Entity, Brush, Kind, brush, group, has_kind, at, up, over, preorder, parent_of, faces_at, faces_of, is_kind, is_linked, format_of, among}
-use Rattle.map_model.specs.Edits.{each_in_turn, copy_last}
+use Rattle.map_model.specs.Tree.{Whole, Node, World, Layer, Group, Entity, Brush, Kind, brush, group, has_kind, at, up, over, parent_of, faces_at, faces_of, is_kind, is_linked, format_of, among}
 use Rattle.map_model.specs.Shape.{Shape}
-use Rattle.map_model.specs.Below.{Below, IsRight}
+use Rattle.map_model.specs.Below.{Below}
 use Rattle.map_model.specs.Commands.{Command, Settings, Copy}
 use Rattle.map_model.specs.Replies.{Refusal, PointRange, OutOfWorld, LockOffset, kept}
 use Rattle.map_model.specs.Brushes.{first_beyond}
 use Rattle.map_model.specs.Carry.{lost_offset}
-use Rattle.map_model.specs.Rows.{rows, first, refuse, at_each, at_each_face, at_each_face_from, named, edits, all_moved, all_moved_of, motion_of, is_locked, is_movable, beyond}
-use Rattle.map_model.specs.Own.{own, copied_node}
+use Rattle.map_model.specs.Rows.{refuse, at_each, at_each_face, at_each_face_from, named, edits, all_moved, all_moved_of, motion_of, is_locked, is_movable, beyond}
+use Rattle.map_model.specs.Own.{own}
 use Rattle.map_model.specs.Apply.{prune}
 use Rattle.map_laws.specs.Placed.{Placed, NoEmptyGroup}
-use Rattle.map_laws.proofs.Lists.{tally, tally-no_member}
+use Rattle.map_laws.proofs.Lists.{tally-no_member}
 use Rattle.map_laws.proofs.Beneath.{Beneath, itself, under}
 use Rattle.map_laws.proofs.Forest.{not_none}
 use Rattle.map_laws.proofs.Nodes.{says_parent}
@@ -28,7 +27,7 @@ use Rattle.map_laws.proofs.Kept.{Comes}
 use Rattle.map_laws.proofs.InTurn.{by_member}
 use Rattle.map_laws.proofs.Refused.{nodes_fit, first_none, refuse_none, each_none}
 use Rattle.map_laws.proofs.RowsPass.{rows_pass}
-use Rattle.map_laws.proofs.Pruned.{Pruned, test_kind, rooted_at}
+use Rattle.map_laws.proofs.Pruned.{test_kind, rooted_at}
 use Rattle.map_laws.proofs.Holding.{movable_says, kind_p}
 use Rattle.map_laws.proofs.MovedNodes.{CanBeMoved}
 use Rattle.map_laws.proofs.MovedMaps.{tops_apart}

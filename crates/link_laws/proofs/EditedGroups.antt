@@ -1,5 +1,5 @@
 -- The edited groups that are spread one after another, as it is stated.
-use Rattle.std.proofs.Common.{ℕ, arith}
+use Rattle.std.proofs.Common.{arith}
 use Rattle.map_laws.proofs.Lists.{count-tally}
 use Rattle.link_laws.specs.EditedGroups.{SpreadEachLaw}
 use Rattle.link_laws.proofs.Pairs.{once_by}

@@ -1,16 +1,16 @@
 -- What follows the own changes of a command that is accepted, where the edited groups can be spread.
-use Rattle.std.proofs.Common.{◌≡◌, ℕ, ◌+◌, ◌≤◌, List, map, Bool, true, false, cond, refl, ap, sym, ◌∙◌, subst, arith, Option, Some, None}
+use Rattle.std.proofs.Common.{◌≡◌, ℕ, ◌+◌, ◌≤◌, map, ap, sym, ◌∙◌, arith, None}
 use Rattle.std.specs.Prelude.{Result, Ok, Err, sum, nat_lt, ◌-◌}
 use Rattle.std.proofs.lemmas.Bool.{ltb-false}
 use Rattle.map_model.specs.Tree.{Whole}
 use Rattle.map_model.specs.Below.{Below, IsRight}
 use Rattle.map_model.specs.Shape.{Shape}
 use Rattle.map_model.specs.Links.{AllOne, spread_all}
-use Rattle.map_model.specs.Commands.{Command, IsGood, Settings}
+use Rattle.map_model.specs.Commands.{Command, Settings}
 use Rattle.map_model.specs.Replies.{Refusal, Reply, Full}
 use Rattle.map_model.specs.Rows.{rows, first}
 use Rattle.map_model.specs.Own.{own}
-use Rattle.map_model.specs.Apply.{Applied, apply, apply_accepted, finish, prune, edited, before_spread, empty_link, full, total, images_of, with_reply, reply_of}
+use Rattle.map_model.specs.Apply.{Applied, apply, apply_accepted, finish, prune, edited, before_spread, empty_link, full, total, images_of, with_reply}
 use Rattle.map_laws.proofs.Refused.{accepted, refuse_none}
 use Rattle.link_laws.proofs.SpreadEach.{ToSpread, spread_each}
 

@@ -1,59 +1,26 @@
 -- ungroup and untie: which contents change where nodes give up their children, and what stands above them.
 use Rattle.algebra.specs.Members.{◌∈◌, here, there}
-use Rattle.map_laws.proofs.Beneath.{Beneath, itself, under, beneath_both, some_one, no_circle}
 use Rattle.map_laws.proofs.Beneath.{Beneath, itself, under, some_one, no_circle}
-use Rattle.map_laws.proofs.Pruned.{some_child, Pruned, pruned_by, child_of, no_child, test_kind, rooted_at, rooted_child, parent_above, is_above, above_live, in_chain}
-use Rattle.map_laws.proofs.Holding.{group_parent, child_of_group, kind_q, movable_says, is_container, container-holds, parent_said, kind_p, entity_parent, parent_holds, child_of_entity}
+use Rattle.map_laws.proofs.Pruned.{some_child, child_of}
+use Rattle.map_laws.proofs.Holding.{group_parent, child_of_group, kind_q, container-holds, parent_said, entity_parent, parent_holds, child_of_entity}
 use Rattle.map_laws.proofs.Dissolving.{dissolve, Dissolved, AllDissolved, dissolve_one}
 use Rattle.link_laws.proofs.Contents.{SameContent, same_itself, same_then, below_back, dissolve_same}
-use Rattle.link_laws.proofs.Contents.{SameContent, same_itself, same_then, below_back, put_last_same, moved_same}
-use Rattle.map_laws.proofs.Forest.{Grown, bit, brush_kind, is_brush_kind, holds, own_place, not_none, live_or_not, with_parent_live, parent_beneath}
-use Rattle.map_laws.proofs.Forest.{PutNew, bit, brush_kind, is_brush_kind, own_place, not_none}
-use Rattle.map_laws.proofs.Fuel.{Chains, in_above, from_above, parent_rooted}
-use Rattle.map_laws.proofs.Fuel.{parent_rooted}
-use Rattle.map_laws.proofs.Kept.{Comes, comes_then, comes_itself, bounded_by, put_last_comes}
-use Rattle.map_laws.proofs.Kept.{Comes, comes_then, comes_itself, bounded_by, take_out_comes, forget_comes, delete_comes}
-use Rattle.map_laws.proofs.Lists.{by_eq, tally, tally-head, tally-member, member-tally, tally-no_member, member-flat, member-from_flat}
-use Rattle.map_laws.proofs.Lists.{by_eq, tally, tally-head, tally-member, member-tally, tally-no_member, member-flat, member-left}
-use Rattle.map_laws.proofs.Nodes.{says_parent, list_in}
+use Rattle.map_laws.proofs.Forest.{bit, brush_kind, is_brush_kind, own_place, not_none, live_or_not, with_parent_live}
+use Rattle.map_laws.proofs.Kept.{comes_then, comes_itself, bounded_by}
+use Rattle.map_laws.proofs.Lists.{by_eq, tally, tally-head, tally-member, member-tally, tally-no_member, member-left}
 use Rattle.map_laws.proofs.Nodes.{says_parent}
-use Rattle.map_laws.proofs.Placing.{chains, delete_placed}
-use Rattle.map_laws.proofs.Placing.{chains, put_last_placed, put_new_last, held-takes, no_slot}
-use Rattle.map_laws.proofs.Pruning.{Upwards, ToDo, HadChildren, prunes, prune-walk, prune_placed, emptied_children}
-use Rattle.map_laws.proofs.Pruning.{Upwards, ToDo, HadChildren}
 use Rattle.map_laws.proofs.Refused.{NodesFit}
-use Rattle.map_laws.proofs.Skeleton.{kind_at, forest, is_brush_is, planted, placed_of, up_child, not_both, kind_is, is_kind_by}
-use Rattle.map_laws.proofs.Skeleton.{kind_at, list_at, forest, is_brush_is, children_are, planted, placed_of, not_both, kind_is, is_kind_by}
-use Rattle.map_laws.proofs.Slots.{member_among, by_bool, takes_kind, no_slot_list}
-use Rattle.map_laws.proofs.Slots.{member_among, by_bool, takes_kind}
-use Rattle.map_laws.proofs.InTurn.{AreNodes, Apart, Deleted, delete_all, MayGo, Gone, move_all_gone, chains_up, by_member, kind-deleted, up-deleted, kind-gone, beneath_sub, up_before, MovedAll}
-use Rattle.map_laws.proofs.InTurn.{MayGo, Gone, move_all_gone, chains_up, by_member}
-use Rattle.link_laws.proofs.Moves.{moved_beneath}
-use Rattle.link_laws.proofs.Untouched.{Unedited, not_beneath, not_parent, pruned_same}
-use Rattle.map_laws.specs.Placed.{Placed, Bounded, can_hold, NewOk}
+use Rattle.map_laws.proofs.Skeleton.{kind_at, planted, placed_of, up_child, kind_is, is_kind_by, list_at, children_are}
+use Rattle.map_laws.proofs.InTurn.{Gone, move_all_gone, by_member, beneath_sub, up_before, MovedAll}
 use Rattle.map_laws.specs.Placed.{Placed, Bounded, can_hold, NoEmptyGroup}
-use Rattle.map_model.specs.Apply.{is_emptied, drop_emptied, prune}
-use Rattle.map_model.specs.Apply.{prune}
-use Rattle.map_model.specs.Commands.{Command, Delete, Into, Ungroup}
-use Rattle.map_model.specs.Commands.{Command, Group as MakeGroup, Tie, Untie}
-use Rattle.map_model.specs.Edits.{each_in_turn, delete, move_all, put_last}
-use Rattle.map_model.specs.Edits.{each_in_turn, take_out, forget, delete, move_all}
-use Rattle.map_model.specs.Own.{gather, untie}
-use Rattle.map_model.specs.Own.{ungroup}
-use Rattle.map_model.specs.Props.{classname}
-use Rattle.map_model.specs.Rows.{named, is_movable, first_of}
-use Rattle.map_model.specs.Rows.{named, kind_passes, may_be_deleted, is_movable, may_take}
-use Rattle.map_model.specs.Shape.{Standing, Marks}
-use Rattle.map_model.specs.Shape.{Standing, may_hold}
-use Rattle.map_model.specs.Tree.{Whole, Node, Kind, world, layer, group, entity, brush, Group, Entity, at, up, above, children, brushes_at, kind_of, parent_of, is_kind, is_brush, is_linked, container, lies_beneath, with_parent}
-use Rattle.map_model.specs.Tree.{Whole, Node, Kind, world, layer, group, entity, brush, at, up, above, children, lies_beneath, kind_of, parent_of, is_kind, is_brush, is_linked, World, Layer, Group, Entity, Brush}
-use Rattle.std.proofs.Common.{◌≡◌, ◌≢◌, ℕ, suc, ◌≤◌, List, [], ◌∷◌, length, flat_map, Bool, true, false, cond, not, ◌==◌, ◌&&◌, ◌||◌, ◌⊎◌, inl, inr, refl, ap, sym, ◌∙◌, subst, arith, Option, Some, None, option_map}
-use Rattle.std.proofs.Common.{◌⊎◌, inl, inr, ◌≡◌, ◌≢◌, ℕ, suc, ◌<◌, ◌≤◌, List, [], ◌∷◌, length, flat_map, true, false, cond, ◌==◌, ◌&&◌, inr, refl, ap, sym, ◌∙◌, subst, arith, Option, Some, None}
-use Rattle.std.proofs.lemmas.Bool.{and_parts, eq-eqb, ne_eqb, ltb-true}
-use Rattle.std.proofs.lemmas.Bool.{and_parts, or_cases, eq-eqb, ne_eqb}
-use Rattle.std.specs.List.{list_all}
+use Rattle.map_model.specs.Commands.{Ungroup, Untie}
+use Rattle.map_model.specs.Edits.{each_in_turn, delete, move_all}
+use Rattle.map_model.specs.Own.{untie, ungroup}
+use Rattle.map_model.specs.Shape.{Standing}
+use Rattle.map_model.specs.Tree.{Whole, Kind, world, layer, group, entity, brush, up, children, brushes_at, is_kind}
+use Rattle.std.proofs.Common.{◌≡◌, ℕ, suc, ◌≤◌, List, [], ◌∷◌, length, true, false, cond, ◌==◌, refl, ap, sym, ◌∙◌, subst, arith, Option, Some, None, ◌<◌}
+use Rattle.std.proofs.lemmas.Bool.{and_parts, ltb-true}
 use Rattle.std.specs.Prelude.{unwrap_or, nat_lt}
-use Rattle.std.specs.Prelude.{unwrap_or, option_and_then, is_none}
 use Rattle.uv_lock.specs.declared.texture.Format.{Format}
 
 -- A node whose children went to its parent, and which is gone: no content changes but those above it.

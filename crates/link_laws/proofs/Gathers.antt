@@ -1,36 +1,32 @@
 -- group and tie: which contents change where nodes go into a new node, and what stands above them.
-use Rattle.std.proofs.Common.{◌⊎◌, inl, inr, ◌≡◌, ◌≢◌, ℕ, suc, ◌<◌, ◌≤◌, List, [], ◌∷◌, length, flat_map, true, false, cond, ◌==◌, ◌&&◌, inr, refl, ap, sym, ◌∙◌, subst, arith, Option, Some, None}
-use Rattle.std.specs.Prelude.{unwrap_or, nat_lt}
-use Rattle.std.proofs.lemmas.Bool.{and_parts, eq-eqb, ne_eqb, ltb-true}
+use Rattle.std.proofs.Common.{◌⊎◌, inl, inr, ◌≡◌, ◌≢◌, ℕ, List, [], ◌∷◌, true, false, ◌==◌, inr, refl, ap, sym, ◌∙◌, subst, arith, Some, None}
+use Rattle.std.proofs.lemmas.Bool.{eq-eqb, ne_eqb}
 use Rattle.uv_lock.specs.declared.texture.Format.{Format}
-use Rattle.algebra.specs.Members.{◌∈◌, here, there}
-use Rattle.map_model.specs.Tree.{Whole, Node, Kind, world, layer, group, entity, brush, Group, Entity, at, up, above, children, brushes_at, kind_of, parent_of, is_kind, is_brush, is_linked, container, lies_beneath, with_parent}
-use Rattle.map_model.specs.Edits.{each_in_turn, delete, move_all, put_last}
-use Rattle.map_model.specs.Commands.{Command, Group as MakeGroup, Tie, Untie}
-use Rattle.map_model.specs.Own.{gather, untie}
+use Rattle.algebra.specs.Members.{◌∈◌, here}
+use Rattle.map_model.specs.Tree.{Whole, Node, Kind, world, layer, group, entity, brush, Group, Entity, at, up, above, kind_of, parent_of, is_linked, container, lies_beneath, with_parent}
+use Rattle.map_model.specs.Edits.{move_all, put_last}
+use Rattle.map_model.specs.Commands.{Command, Group as MakeGroup, Tie}
+use Rattle.map_model.specs.Own.{gather}
 use Rattle.map_model.specs.Props.{classname}
 use Rattle.map_model.specs.Rows.{named, is_movable, first_of}
 use Rattle.map_model.specs.Shape.{Standing, Marks}
 use Rattle.map_model.specs.Apply.{prune}
 use Rattle.map_laws.specs.Placed.{Placed, Bounded, can_hold, NewOk}
-use Rattle.map_laws.proofs.Lists.{by_eq, tally, tally-head, tally-member, member-tally, tally-no_member, member-flat, member-left}
 use Rattle.map_laws.proofs.Beneath.{Beneath, itself, under, beneath_both, some_one, no_circle}
 use Rattle.map_laws.proofs.Fuel.{parent_rooted}
-use Rattle.map_laws.proofs.Forest.{PutNew, bit, brush_kind, is_brush_kind, own_place, not_none}
+use Rattle.map_laws.proofs.Forest.{PutNew, brush_kind, not_none}
 use Rattle.map_laws.proofs.Nodes.{says_parent, list_in}
-use Rattle.map_laws.proofs.Skeleton.{kind_at, list_at, forest, is_brush_is, children_are, planted, placed_of, not_both, kind_is, is_kind_by}
-use Rattle.map_laws.proofs.Slots.{member_among, by_bool, takes_kind}
+use Rattle.map_laws.proofs.Skeleton.{kind_at, forest, planted, placed_of, not_both, kind_is}
+use Rattle.map_laws.proofs.Slots.{member_among, takes_kind}
 use Rattle.map_laws.proofs.Placing.{chains, put_last_placed, put_new_last, held-takes, no_slot}
-use Rattle.map_laws.proofs.Pruning.{Upwards, ToDo, HadChildren}
-use Rattle.map_laws.proofs.Kept.{Comes, comes_then, comes_itself, bounded_by, put_last_comes}
-use Rattle.map_laws.proofs.InTurn.{MayGo, Gone, move_all_gone, chains_up, by_member}
+use Rattle.map_laws.proofs.Kept.{Comes, bounded_by, put_last_comes}
+use Rattle.map_laws.proofs.InTurn.{MayGo, Gone, move_all_gone}
 use Rattle.link_laws.proofs.Moves.{moved_beneath}
 use Rattle.map_laws.proofs.Refused.{NodesFit}
-use Rattle.link_laws.proofs.Contents.{SameContent, same_itself, same_then, below_back, put_last_same, moved_same}
+use Rattle.link_laws.proofs.Contents.{SameContent, same_then, below_back, put_last_same, moved_same}
 use Rattle.link_laws.proofs.Untouched.{Unedited, not_beneath, not_parent, pruned_same}
-use Rattle.map_laws.proofs.Pruned.{Pruned, pruned_by, child_of, no_child, test_kind, rooted_at, rooted_child, parent_above, is_above, above_live, in_chain}
-use Rattle.map_laws.proofs.Holding.{kind_q, movable_says, is_container, container-holds, parent_said, kind_p, entity_parent, parent_holds, child_of_entity}
-use Rattle.map_laws.proofs.Dissolving.{Dissolved, AllDissolved, dissolve_one}
+use Rattle.map_laws.proofs.Pruned.{Pruned, test_kind, rooted_at, rooted_child, is_above}
+use Rattle.map_laws.proofs.Holding.{kind_q, movable_says, container-holds, parent_holds}
 use Rattle.map_laws.proofs.Gathering.{Inside, container_inside, gather_pruned}
 
 -- What is known of a new node x, into which the nodes ns went.

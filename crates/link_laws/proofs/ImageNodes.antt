@@ -1,13 +1,12 @@
 -- The image of a right node is right, where no fault is told of it.
-use Rattle.std.proofs.Common.{◌≡◌, ℕ, List, [], ◌∷◌, ◌++◌, map, filter, filter_map, Bool, true, false, cond, not, ◌&&◌, ◌||◌, refl, ap, sym, ◌∙◌, subst, Option, Some, None, option_map}
-use Rattle.std.specs.Prelude.{ℤ, option_and_then, codes, is_some, is_none, unwrap_or}
+use Rattle.std.proofs.Common.{◌≡◌, ℕ, List, [], ◌∷◌, ◌++◌, filter, filter_map, Bool, true, false, cond, not, ◌&&◌, ◌||◌, refl, ap, sym, ◌∙◌, Option, Some, None, option_map}
+use Rattle.std.specs.Prelude.{ℤ, option_and_then, codes, is_some, is_none}
 use Rattle.std.specs.Option.{option_map_or}
 use Rattle.std.specs.List.{list_all, cons_option}
 use Rattle.std.specs.Str.{bytes_eq}
 use Rattle.std.proofs.lemmas.Bool.{and_parts, and_from, true≢false}
 use Rattle.std.proofs.lemmas.Slice.Eq.{bytes_eq-Decides}
-use Rattle.algebra.specs.Members.{◌∈◌}
-use Rattle.exact_geom.specs.Planes.{half_space, first_out_of_range}
+use Rattle.exact_geom.specs.Planes.{first_out_of_range}
 use Rattle.uv_lock.specs.declared.texture.Format.{Format}
 use Rattle.map_lex.specs.OneToken.{is_value_text, is_key_text}
 use Rattle.map_text.specs.Spelled.{keys_are_distinct}
@@ -15,20 +14,20 @@ use Rattle.map_model.specs.Faces.{Face, Tex, StandardFields, ValveFields}
 use Rattle.map_model.specs.Motions.{Motion, is_signed_permutation, moved_plane}
 use Rattle.map_model.specs.Carry.{carry, carried_tex, turned_axes, lost_offset, lost_offset_at, locked_offset}
 use Rattle.map_model.specs.Brushes.{first_place, first_beyond}
-use Rattle.map_model.specs.Tree.{Whole, Node, World, Layer, Group, Entity, Brush, Props, Kind, entity, props_of, protected_of, at, content, other_members}
+use Rattle.map_model.specs.Tree.{Node, World, Layer, Group, Entity, Brush, Props, entity, props_of}
 use Rattle.map_model.specs.Edits.{renumber}
 use Rattle.map_model.specs.Shape.{PropsOk, NodeOk, is_plain_type, taken_keys}
 use Rattle.map_model.specs.Props.{value_at, has_key, is_text_among}
-use Rattle.map_model.specs.Origins.{moved_props, is_origin_stuck}
+use Rattle.map_model.specs.Origins.{moved_props}
 use Rattle.map_model.specs.Below.{Below, IsRight}
-use Rattle.map_model.specs.Links.{image, image_props, kept_value, is_protected, image_fault, spread_fault, member_fault, image_fault_at, leads}
+use Rattle.map_model.specs.Links.{image, image_props, kept_value, is_protected, image_fault}
 use Rattle.map_laws.proofs.Slots.{by_bool}
 use Rattle.map_laws.proofs.MovedFaces.{CanBeCarried}
 use Rattle.map_laws.proofs.MovedNodes.{CanBeMoved, node_moved}
 use Rattle.map_laws.proofs.MovingCommands.{no_place, none_by}
 use Rattle.link_laws.specs.Images.{OldOk}
 use Rattle.link_laws.proofs.Values.{image_free, image_protected_value}
-use Rattle.link_laws.proofs.Ones.{no_if, no_at, no_first, fault_of}
+use Rattle.link_laws.proofs.Ones.{no_if, no_at}
 
 -- What is told of faces. -------------------------------------------------------------------------------------------------------------
 

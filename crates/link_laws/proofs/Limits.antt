@@ -1,7 +1,6 @@
 -- A texture whose numbers are in range has two axes of three parts each, and two offsets below the limit.
-use Rattle.std.proofs.Common.{◌≡◌, ℕ, List, [], ◌∷◌, length, Bool, true, ◌∙◌, ◌==◌, ◌&&◌, refl, ℤ, ◌<◌, unsigned_abs, arith, eqb-true}
+use Rattle.std.proofs.Common.{◌≡◌, List, [], ◌∷◌, length, Bool, true, ◌∙◌, ◌==◌, ◌&&◌, refl, ℤ, ◌<◌, unsigned_abs, arith, eqb-true}
 use Rattle.std.specs.List.{list_all}
-use Rattle.std.specs.Prelude.{nat_lt}
 use Rattle.std.proofs.lemmas.Bool.{and_parts, ltb-true}
 use Rattle.algebra.specs.Space.{Vector}
 use Rattle.exact_geom.specs.Planes.{parts}
@@ -9,7 +8,7 @@ use Rattle.map_model.specs.Faces.{Tex, StandardFields, ValveFields, axis_unit, o
 use Rattle.map_model.specs.Motions.{vector_at}
 use Rattle.map_model.specs.Shape.{is_below_million, are_below_million, is_tex_in_range}
 use Rattle.uv_lock.specs.Carry.{offset_limit}
-use Rattle.lock_laws.specs.Laws.{HasLimits, IsInLimits}
+use Rattle.lock_laws.specs.Laws.{IsInLimits}
 
 three_parts : (l : List ℤ) → (length l == 3) ≡ true → (v : Vector) × (l ≡ parts v)
 three_parts [] e = absurd (cc)

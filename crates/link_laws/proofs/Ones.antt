@@ -12,8 +12,7 @@ use Rattle.map_model.specs.Origins.{is_origin_stuck}
 use Rattle.map_model.specs.Below.{Below}
 use Rattle.map_model.specs.Brushes.{first_place, first_beyond}
 use Rattle.map_model.specs.Replies.{Refusal}
-use Rattle.map_model.specs.Links.{at_both, content_agrees, same_counts_of_children, same_place, are_image_faces, same_group, origin_agrees, values_agree, IsOneContent, motion_at, leads, old_number, old_node, fault_at, fault_if, image_fault, image_fault_at, first_fault, member_fault, spread_fault}
-use Rattle.map_model.specs.Links.{AgreeInValues}
+use Rattle.map_model.specs.Links.{at_both, content_agrees, same_counts_of_children, same_place, are_image_faces, same_group, origin_agrees, values_agree, IsOneContent, motion_at, leads, old_number, old_node, fault_at, fault_if, image_fault, image_fault_at, first_fault, member_fault, spread_fault, AgreeInValues}
 use Rattle.map_laws.specs.Placed.{Placed}
 use Rattle.map_laws.proofs.Beneath.{Beneath, beneath_both}
 use Rattle.map_laws.proofs.Fuel.{Chains}

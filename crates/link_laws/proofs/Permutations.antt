@@ -1,13 +1,11 @@
 -- The motion from one member of a set to another is a signed permutation, as those of the members are.
-use Rattle.std.proofs.Common.{◌≡◌, ℕ, ◌<◌, Bool, true, ◌&&◌, ap, sym, ◌∙◌, subst, refl, arith, Option, Some, None, option_map, [], ◌∷◌, List}
+use Rattle.std.proofs.Common.{◌≡◌, ℕ, true, ◌&&◌, ◌∙◌, subst, refl, Option, Some, None, option_map, []}
 use Rattle.std.specs.Prelude.{IsTrue, unwrap_or, slice_index_or}
 use Rattle.std.proofs.lemmas.Bool.{and_parts, and_from}
 use Rattle.algebra.specs.Space.{dot}
-use Rattle.orient48.specs.Motions.{Matrix, product, transposed, unturned, is_unit, is_signed_permutation, is_kept_motion, stay, between}
-use Rattle.orient48.specs.Orients.{matrix_of}
+use Rattle.orient48.specs.Motions.{Matrix, product, transposed, is_unit, is_signed_permutation, is_kept_motion, stay}
 use Rattle.orient48.proofs.Numbers.{signed, number_of_below, number_of_is}
-use Rattle.orient48.proofs.Entries.{are_products, products, product_below, product_matrix}
-use Rattle.orient48.proofs.Entries.{number_of}
+use Rattle.orient48.proofs.Entries.{are_products, products, product_below, product_matrix, number_of}
 use Rattle.map_model.specs.Tree.{Whole, Node, World, Layer, Group, Entity, Brush, Link, at, link_of}
 use Rattle.map_model.specs.Shape.{EachNode}
 use Rattle.map_model.specs.Links.{motion_at, leads}

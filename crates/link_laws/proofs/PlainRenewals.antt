@@ -1,9 +1,8 @@
 -- A command that spreads no group, from a map that keeps the sets.
-use Rattle.std.proofs.Common.{◌≡◌, ℕ, ◌≤◌, List, [], ◌∷◌, filter, true, false, ◌&&◌, refl, ap, sym, ◌∙◌, subst, arith, option_map}
+use Rattle.std.proofs.Common.{◌≡◌, ℕ, ◌≤◌, [], true, ap, sym, ◌∙◌, subst, arith, option_map}
 use Rattle.std.specs.Prelude.{is_some}
-use Rattle.std.proofs.lemmas.Bool.{and_right}
 use Rattle.algebra.specs.Members.{◌∈◌}
-use Rattle.map_model.specs.Tree.{Whole, at, is_linked, link_at, set_at, all_numbers, format_of, over}
+use Rattle.map_model.specs.Tree.{Whole, is_linked, link_at, set_at, format_of}
 use Rattle.map_model.specs.Shape.{Shape}
 use Rattle.map_model.specs.Links.{AllOne}
 use Rattle.map_model.specs.Commands.{Command}

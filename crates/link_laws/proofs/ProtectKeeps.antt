@@ -1,20 +1,18 @@
 -- protect keeps the sets of linked groups.
-use Rattle.std.proofs.Common.{◌≡◌, ℕ, List, [], ◌∷◌, true, false, ◌==◌, ◌&&◌, ◌||◌, refl, ap, sym, ◌∙◌, Some, None, filter}
+use Rattle.std.proofs.Common.{◌≡◌, ℕ, List, false, ◌==◌, ◌&&◌, ◌||◌, refl, sym, ◌∙◌, None}
 use Rattle.std.specs.List.{list_any}
 use Rattle.std.specs.Str.{bytes_eq}
 use Rattle.std.proofs.lemmas.Bool.{and_right}
-use Rattle.algebra.specs.Members.{here}
 use Rattle.uv_lock.specs.declared.texture.Format.{Format}
-use Rattle.map_model.specs.Tree.{Whole, Node, World, Layer, Group, Entity, Brush, at, is_linked, all_numbers, protected_of, with_protected, format_of, among}
+use Rattle.map_model.specs.Tree.{Whole, Node, World, Layer, Group, Entity, Brush, is_linked, all_numbers, protected_of, with_protected, format_of}
 use Rattle.map_model.specs.Edits.{renew}
-use Rattle.map_model.specs.Shape.{Shape, NodeOk}
+use Rattle.map_model.specs.Shape.{NodeOk}
 use Rattle.map_model.specs.Below.{Below}
 use Rattle.map_model.specs.Props.{is_file_key, classname, origin}
 use Rattle.map_model.specs.Commands.{Protect, IsGood, Settings}
 use Rattle.map_model.specs.Replies.{ReservedKey}
 use Rattle.map_model.specs.Rows.{rows, first}
 use Rattle.map_model.specs.Own.{with_key}
-use Rattle.map_model.specs.Apply.{prune, edited}
 use Rattle.map_laws.proofs.Refused.{refuse_none}
 use Rattle.map_laws.proofs.RowsPass.{rows_pass}
 use Rattle.map_laws.proofs.Pruned.{not_emptied, prune_none}

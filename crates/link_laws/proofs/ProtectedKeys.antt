@@ -1,5 +1,5 @@
 -- A key that joins the protected ones leaves them right.
-use Rattle.std.proofs.Common.{◌≡◌, ℕ, List, [], ◌∷◌, ◌++◌, length, Bool, true, false, cond, not, ◌==◌, ◌&&◌, ◌||◌, refl, ap, sym, ◌∙◌, subst, arith}
+use Rattle.std.proofs.Common.{◌≡◌, ℕ, List, [], ◌∷◌, ◌++◌, length, Bool, true, false, cond, not, ◌==◌, ◌&&◌, ◌||◌, refl, ap, sym, ◌∙◌}
 use Rattle.std.specs.List.{list_all, list_any, join_with_byte}
 use Rattle.std.specs.Str.{bytes_eq}
 use Rattle.std.proofs.lemmas.Bool.{and_parts, and_from, or_parts, true≢false}
@@ -7,7 +7,7 @@ use Rattle.std.proofs.lemmas.Slice.Eq.{bytes_eq-Decides}
 use Rattle.map_lex.specs.Bytes.{is_stray}
 use Rattle.map_lex.specs.OneToken.{quotes_are_escaped, is_value_text}
 use Rattle.map_model.specs.Shape.{ProtectedOk, texts_are_distinct, can_be_protected, joined_keys}
-use Rattle.map_model.specs.Props.{is_text_among, is_file_key, is_reserved_key, classname, origin}
+use Rattle.map_model.specs.Props.{is_text_among, is_file_key, classname, origin}
 use Rattle.map_model.specs.Own.{with_key}
 use Rattle.map_laws.proofs.Slots.{by_bool}
 

@@ -1,40 +1,27 @@
 -- Commands that change one node where no other sees it keep the shape, and new nodes are right.
-use Rattle.std.proofs.Common.{◌≡◌, ℕ, List, [], ◌∷◌, flat_map, Bool, true, false, ◌==◌, ◌&&◌, ◌||◌, ◌⊎◌, inl, inr, refl, ap, sym, ◌∙◌, arith, Some, None, option_map}
+use Rattle.std.proofs.Common.{◌≡◌, ℕ, List, [], ◌∷◌, Bool, true, false, ◌==◌, ◌&&◌, ◌||◌, ◌⊎◌, inl, inr, refl, ap, sym, ◌∙◌, Some, None, option_map}
 use Rattle.std.specs.Str.{bytes_eq}
 use Rattle.std.proofs.lemmas.Bool.{or_parts, and_from, eq-eqb}
 use Rattle.uv_lock.specs.declared.texture.Format.{Format}
 use Rattle.algebra.specs.Members.{here}
 use Rattle.map_lex.specs.OneToken.{is_value_text}
-use Rattle.map_model.specs.Tree.{Whole, Node, Kind, world, layer, group, entity, brush, at, kind_of, props_of, with_props, with_frozen, format_of}
-use Rattle.map_model.specs.Tree.{Layer as LayerNode, Group as GroupNode, Entity as EntityNode}
+use Rattle.map_model.specs.Tree.{Whole, Node, Kind, world, layer, group, entity, brush, at, kind_of, props_of, with_props, with_frozen, format_of, Layer as LayerNode, Group as GroupNode, Entity as EntityNode}
 use Rattle.map_model.specs.Edits.{renew}
-use Rattle.map_model.specs.Shape.{Shape, NodeOk}
+use Rattle.map_model.specs.Shape.{Shape}
 use Rattle.map_model.specs.Below.{Below}
 use Rattle.map_model.specs.Props.{set_value, without_key, is_file_key, classname, origin}
-use Rattle.map_model.specs.Commands.{Command, IsGood, point_in, Settings, Delete, Entity, Set, Unset, Tie, Untie, Layer, Freeze, Thaw, Group, Ungroup, Into}
+use Rattle.map_model.specs.Commands.{IsGood, Settings, Set, Unset}
 use Rattle.map_model.specs.Replies.{ReservedKey}
-use Rattle.map_model.specs.Rows.{rows, first, edits, has_props}
-use Rattle.map_model.specs.Own.{own, point_text}
-use Rattle.map_model.specs.Apply.{prune}
-use Rattle.map_laws.specs.Placed.{KeepsAll, NewOk}
-use Rattle.map_laws.specs.Unlinked.{Unlinked}
-use Rattle.map_laws.specs.TreeCommands.{is_tree_command, UnlinkedApplyLaw, UnlinkedRowsLaw, TreeCommandLaw}
+use Rattle.map_model.specs.Rows.{rows, first, has_props}
+use Rattle.map_laws.specs.Placed.{NewOk}
 use Rattle.map_laws.proofs.Skeleton.{kind_at, is_kind_by}
 use Rattle.map_laws.proofs.Refused.{nodes_fit, refuse_none}
-use Rattle.map_laws.proofs.Pruned.{not_emptied, prune_none, test_kind}
-use Rattle.map_laws.proofs.Deleting.{delete_pruned}
-use Rattle.map_laws.proofs.GoingInto.{into_pruned}
-use Rattle.map_laws.proofs.Dissolving.{ungroup_pruned}
-use Rattle.map_laws.proofs.Untying.{untie_pruned}
-use Rattle.map_laws.proofs.Gathering.{group_pruned, tie_pruned}
-use Rattle.map_laws.proofs.Renewing.{renew_alike, renew_shape, same_children, same_linked}
+use Rattle.map_laws.proofs.Pruned.{test_kind}
+use Rattle.map_laws.proofs.Renewing.{renew_shape}
 use Rattle.map_laws.proofs.Properties.{node_put, node_without}
 use Rattle.map_laws.proofs.Parts.{keeps_props, keeps_frozen, frozen_ok}
-use Rattle.map_laws.proofs.Texts.{text_value, name_value, name_key, place_value}
-use Rattle.map_laws.proofs.NewNodes.{put_in_world}
+use Rattle.map_laws.proofs.Texts.{text_value, name_key}
 use Rattle.map_laws.proofs.RowsPass.{rows_pass}
-use Rattle.map_laws.proofs.Unlinking.{Outcome, EndsPlainly, outcome_of, outcome_same, apply_is, accepted_shape}
-use Rattle.map_laws.proofs.TreeRows.{rows_are}
 
 world_or_entity : (k : Kind) → has_props k ≡ true → (k ≡ world) ⊎ (k ≡ entity)
 world_or_entity world e = inl refl

@@ -1,5 +1,5 @@
 -- The commands that change one node where no other sees it keep the sets of linked groups: set, unset, freeze and thaw.
-use Rattle.std.proofs.Common.{◌≡◌, ℕ, List, [], ◌∷◌, flat_map, Bool, true, false, refl, Some, ap, sym, ◌∙◌, subst}
+use Rattle.std.proofs.Common.{◌≡◌, ℕ, List, [], ◌∷◌, flat_map, true, false, refl, Some, ap, sym, ◌∙◌, subst}
 use Rattle.std.specs.Prelude.{option_to_list}
 use Rattle.algebra.specs.Members.{◌∈◌, here}
 use Rattle.map_model.specs.Tree.{Whole, Node, Kind, layer, group, over, is_linked, props_of, with_props, with_frozen}

@@ -1,9 +1,8 @@
 -- The edited groups are spread one after another: then each two members of each set are one content, and the map has its shape.
 use Rattle.std.proofs.Common.{◌≡◌, ◌≢◌, ℕ, ◌+◌, ◌≤◌, List, [], ◌∷◌, map, Bool, true, false, not, ◌==◌, ◌&&◌, refl, ap, sym, ◌∙◌, subst, arith, Option, Some, None, option_map}
 use Rattle.std.specs.Prelude.{Result, Ok, Err, sum, is_some, filter, unwrap_or}
-use Rattle.std.proofs.lemmas.Bool.{true≢false}
 use Rattle.algebra.specs.Members.{◌∈◌, here, there}
-use Rattle.map_model.specs.Tree.{Whole, Link, link_of, at, content, is_linked, link_at, set_at, other_members, all_numbers, is_one_number}
+use Rattle.map_model.specs.Tree.{Whole, Link, link_of, at, content, link_at, set_at, other_members, all_numbers, is_one_number}
 use Rattle.map_model.specs.Shape.{Shape}
 use Rattle.map_model.specs.Below.{Below, IsRight}
 use Rattle.map_model.specs.Replies.{Refusal}

@@ -1,12 +1,12 @@
 -- A spread of which no fault is told leaves each node right.
-use Rattle.std.proofs.Common.{◌≡◌, ◌≢◌, ℕ, List, [], ◌∷◌, Bool, true, false, not, ◌==◌, ◌&&◌, refl, ap, sym, ◌∙◌, subst, arith, Option, Some, None, option_map, inl, inr}
+use Rattle.std.proofs.Common.{◌≡◌, ◌≢◌, ℕ, List, true, false, not, ◌==◌, ◌&&◌, refl, ap, sym, ◌∙◌, subst, arith, Option, Some, None, option_map}
 use Rattle.std.specs.Prelude.{unwrap_or, is_some}
 use Rattle.std.proofs.lemmas.Bool.{and_from, ne_eqb, eq-eqb}
 use Rattle.algebra.specs.Members.{◌∈◌}
 use Rattle.uv_lock.specs.declared.texture.Format.{Format}
 use Rattle.uv_lock.specs.declared.texture.Format.TheVariants.{Standard}
 use Rattle.map_model.specs.Motions.{stay, between, is_signed_permutation}
-use Rattle.map_model.specs.Tree.{Whole, Node, World, Layer, Group, Entity, Brush, Link, world, group, at, up, content, kind_of, link_at, set_at, other_members, all_numbers, is_one_number, format_of, format_of_node}
+use Rattle.map_model.specs.Tree.{Whole, Node, World, Layer, Group, Entity, Brush, world, group, at, up, content, link_at, set_at, other_members, all_numbers, is_one_number, format_of, format_of_node}
 use Rattle.map_model.specs.Edits.{renumber}
 use Rattle.map_model.specs.Shape.{Shape, NodeOk, EachNode}
 use Rattle.map_model.specs.Below.{Below, IsRight}
@@ -21,10 +21,10 @@ use Rattle.map_laws.proofs.Renewing.{linked_is}
 use Rattle.map_laws.proofs.MovedFaces.{mapped}
 use Rattle.map_laws.proofs.MovedNodes.{CanBeMoved}
 use Rattle.link_laws.specs.Images.{OldOk}
-use Rattle.link_laws.proofs.Pairs.{none_or_some, once_by}
+use Rattle.link_laws.proofs.Pairs.{none_or_some}
 use Rattle.link_laws.proofs.Putting.{Pair, with_lists, D, O, D_out, at_new, at_gone, at_h, at_other}
 use Rattle.link_laws.proofs.Members.{stays}
-use Rattle.link_laws.proofs.Spreading.{Field, Source, Spreads, pair_of, content_p, node_p, one_step}
+use Rattle.link_laws.proofs.Spreading.{Field, Source, pair_of, content_p, node_p, one_step}
 use Rattle.link_laws.proofs.Keeping.{by_steps}
 use Rattle.link_laws.proofs.Ones.{Linked, field, source, root, cm, no_if, no_first, fault_of}
 use Rattle.link_laws.proofs.SpreadOne.{other_is, set_linked, to_filter}

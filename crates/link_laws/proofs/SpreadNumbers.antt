@@ -1,9 +1,9 @@
 -- How many numbers a spread draws is told by the map before it.
-use Rattle.std.proofs.Common.{◌≡◌, ◌≢◌, ℕ, zero, suc, ◌+◌, ◌-◌, ◌≤◌, List, [], ◌∷◌, map, filter, length, Bool, true, false, cond, refl, ap, sym, ◌∙◌, subst, arith, Option, Some, None}
+use Rattle.std.proofs.Common.{◌≡◌, ◌≢◌, ℕ, zero, suc, ◌+◌, ◌-◌, ◌≤◌, List, [], ◌∷◌, map, filter, length, Bool, false, cond, refl, ap, sym, ◌∙◌, subst, arith}
 use Rattle.std.specs.Prelude.{is_none, sum}
 use Rattle.std.specs.List.{fold}
 use Rattle.algebra.specs.Members.{◌∈◌, here, there}
-use Rattle.map_model.specs.Tree.{Whole, at, content, other_members, all_numbers, numbers_from}
+use Rattle.map_model.specs.Tree.{Whole, at, content, numbers_from}
 use Rattle.map_model.specs.Links.{new_images, old_number, put_content, put_contents}
 use Rattle.link_laws.proofs.Pairs.{Once}
 use Rattle.link_laws.proofs.Spreading.{Field, Source, number_same, content_p, node_p, field_next, source_next}

@@ -10,8 +10,7 @@ use Rattle.map_model.specs.Edits.{renumber}
 use Rattle.map_model.specs.Shape.{Shape}
 use Rattle.map_model.specs.Below.{Below}
 use Rattle.map_model.specs.Replies.{Refusal}
-use Rattle.map_model.specs.Links.{at_both, content_agrees, same_counts_of_children, IsOneContent, One, motion_at, leads, image, old_node, spread_fault, put_contents, spread}
-use Rattle.map_model.specs.Links.{OthersAgree}
+use Rattle.map_model.specs.Links.{at_both, content_agrees, same_counts_of_children, IsOneContent, One, motion_at, leads, image, old_node, spread_fault, put_contents, spread, OthersAgree}
 use Rattle.map_laws.proofs.Lists.{by_eq, tally-member}
 use Rattle.map_laws.proofs.Skeleton.{list_at}
 use Rattle.map_laws.proofs.Slots.{by_bool}

@@ -1,53 +1,33 @@
 -- What is known of the maps that commands of the tree make by their own changes: what is pruned of them, which contents they leave, and what stands above linked groups.
-use Rattle.std.proofs.Common.{◌≡◌, ℕ, ◌≤◌, List, [], ◌∷◌, flat_map, true, false, cond, ◌&&◌, ◌⊎◌, inl, inr, refl, ap, sym, ◌∙◌, subst, arith, Some, None, option_map, filter}
-use Rattle.std.specs.Prelude.{option_to_list, is_none}
-use Rattle.std.proofs.lemmas.Bool.{cases_lt, and_parts, and_from}
+use Rattle.std.proofs.Common.{◌≡◌, ℕ, List, ◌∷◌, true, false, ◌&&◌, ◌⊎◌, inl, inr, refl, ap, sym, ◌∙◌, Some, None}
 use Rattle.algebra.specs.Members.{◌∈◌, there}
-use Rattle.map_model.specs.Tree.{Whole, Node, Kind, at, world, layer, group, entity, brush, up, over, children, among, is_linked, is_kind, is_one_number, kind_of, props_of, with_props, with_frozen, with_mark, format_of, container, all_numbers, numbers_from, content}
-use Rattle.map_model.specs.Edits.{renew, each_in_turn, delete, move_all, draw_number}
+use Rattle.map_model.specs.Tree.{Whole, Kind, world, layer, group, entity, brush, up, over, is_linked, format_of, container}
+use Rattle.map_model.specs.Edits.{each_in_turn, delete, move_all}
 use Rattle.map_model.specs.Shape.{Shape}
 use Rattle.map_model.specs.Below.{Below}
-use Rattle.map_model.specs.Props.{set_value, without_key}
 use Rattle.map_model.specs.Own.{own, ungroup, untie}
-use Rattle.map_model.specs.Apply.{prune, edited, marked, mark_content, mark_new, unmark, before_spread, empty_link, is_emptied}
 use Rattle.map_laws.proofs.Texts.{name_value}
-use Rattle.map_model.specs.Commands.{IsGood, Command, Settings, Delete, Into, Ungroup, Untie, Tie, Set, Unset, Freeze, Thaw, Group as MakeGroup}
-use Rattle.map_model.specs.Replies.{EmptyLink, NestedLink, NoNode}
-use Rattle.map_model.specs.Rows.{named, no_node, edits, rows, first, refuse, at_each, is_in_link, holds_link}
-use Rattle.map_laws.specs.Placed.{Placed, KeepsAll, can_hold}
-use Rattle.map_laws.proofs.Lists.{tally, tally-member}
+use Rattle.map_model.specs.Commands.{IsGood, Settings, Delete, Into, Ungroup, Untie, Tie, Group as MakeGroup}
+use Rattle.map_model.specs.Replies.{NestedLink}
+use Rattle.map_model.specs.Rows.{edits, rows, first, refuse, is_in_link, holds_link}
+use Rattle.map_laws.specs.Placed.{Placed, can_hold}
 use Rattle.map_laws.proofs.Beneath.{Beneath, itself, under, some_one}
 use Rattle.map_laws.proofs.Forest.{not_none}
-use Rattle.map_laws.proofs.Skeleton.{kind_at, planted, placed_of, not_both, kind_is, is_kind_by}
-use Rattle.map_laws.proofs.Slots.{member_among}
-use Rattle.map_laws.proofs.Placing.{chains}
-use Rattle.map_laws.proofs.Replacing.{tally-numbers_in, tally-numbers_out}
-use Rattle.map_laws.proofs.Pruning.{emptied_by}
-use Rattle.map_laws.proofs.Kept.{Comes, comes_itself}
+use Rattle.map_laws.proofs.Skeleton.{kind_at, placed_of, kind_is}
 use Rattle.map_laws.proofs.InTurn.{MovedAll, beneath_sub}
 use Rattle.link_laws.proofs.Moves.{moved_beneath}
-use Rattle.map_laws.proofs.Refused.{NodesFit, nodes_fit, first_none, each_none, refuse_none}
-use Rattle.map_laws.proofs.Pruned.{Pruned, in_chain, rooted_at, not_emptied, prune_none}
+use Rattle.map_laws.proofs.Refused.{NodesFit, nodes_fit, each_none, refuse_none}
+use Rattle.map_laws.proofs.Pruned.{rooted_at}
 use Rattle.map_laws.proofs.Deleting.{delete_pruned, deleted}
 use Rattle.map_laws.proofs.GoingInto.{into_pruned, into_gone, into_rooted, not_above_place}
 use Rattle.map_laws.proofs.Dissolving.{ungroup_pruned}
 use Rattle.link_laws.proofs.Freed.{ungrouped, untied}
-use Rattle.link_laws.proofs.Moves.{live_kind}
 use Rattle.map_laws.proofs.Holding.{kind_q, parent_holds}
 use Rattle.link_laws.proofs.Gathers.{group_gathers, tie_gathers}
 use Rattle.map_laws.proofs.Untying.{untie_pruned}
-use Rattle.map_laws.proofs.Renewing.{renew_alike, same_children, same_over}
-use Rattle.map_laws.proofs.Parts.{keeps_props, keeps_frozen}
-use Rattle.link_laws.proofs.Renewals.{new_group}
-use Rattle.link_laws.proofs.Renewals.{new_entity, set_shape, unset_shape, frozen_shape}
-use Rattle.link_laws.proofs.Contents.{SameContent, same_itself}
+use Rattle.link_laws.proofs.Renewals.{new_group, new_entity}
 use Rattle.link_laws.proofs.Edited.{unpruned, group_linked, delete_content, into_content, ungroup_content, untie_content, not_over_by, in_option}
-use Rattle.link_laws.proofs.Untouched.{over_is}
-use Rattle.link_laws.proofs.Remarked.{tally-filter, filter_member, member_filter, remarked, shape_after, spared_after, all_marked, Unchanged}
-use Rattle.link_laws.proofs.MarkSteps.{same_linked}
-use Rattle.link_laws.proofs.Others.{still_one}
-use Rattle.map_model.specs.Links.{One}
-use Rattle.link_laws.proofs.Nested.{pruned_beneath, linked_before, apart_by, link_row, not_into_link}
+use Rattle.link_laws.proofs.Nested.{pruned_beneath, link_row, not_into_link}
 use Rattle.link_laws.proofs.BeforeSpread.{Result, named_rooted}
 
 -- Each command's result.

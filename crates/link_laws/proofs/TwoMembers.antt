@@ -1,5 +1,5 @@
 -- What the row of two members tells: of two edited groups that are in one set, both are one.
-use Rattle.std.proofs.Common.{◌≡◌, ℕ, List, [], ◌∷◌, flat_map, Bool, true, false, not, ◌==◌, ◌&&◌, refl, ap, sym, ◌∙◌, subst, Option, Some, None, eqb-true}
+use Rattle.std.proofs.Common.{◌≡◌, ℕ, List, [], ◌∷◌, flat_map, Bool, true, false, not, ◌==◌, ◌&&◌, refl, ap, sym, ◌∙◌, Some, None, eqb-true}
 use Rattle.std.specs.List.{list_any}
 use Rattle.std.proofs.lemmas.Bool.{eq-eqb, true≢false}
 use Rattle.algebra.specs.Members.{◌∈◌, here, there}

@@ -1,16 +1,15 @@
 -- unlink keeps the sets of linked groups.
-use Rattle.std.proofs.Common.{◌≡◌, ◌≢◌, ℕ, ◌<◌, ◌≤◌, List, [], ◌∷◌, ◌++◌, filter, flat_map, Bool, true, false, cond, ◌&&◌, inl, inr, refl, ap, sym, ◌∙◌, subst, arith, Option, Some, None, option_map}
+use Rattle.std.proofs.Common.{◌≡◌, ℕ, List, [], ◌∷◌, ◌++◌, filter, Bool, true, false, cond, ◌&&◌, inl, inr, refl, ap, sym, ◌∙◌, subst, arith, Option, Some, None, option_map}
 use Rattle.std.specs.Prelude.{not, is_some, is_none, option_to_list, unwrap_or}
 use Rattle.std.proofs.lemmas.Bool.{cases_lt, and_right}
-use Rattle.algebra.specs.Members.{◌∈◌, here, there}
-use Rattle.map_model.specs.Tree.{Whole, Node, World, Layer, Group, Entity, Brush, at, up, over, among, content, is_linked, link_at, set_at, mark_at, kind_of, mark_of, with_mark, with_link, all_numbers, group}
+use Rattle.map_model.specs.Tree.{Whole, Node, World, Layer, Group, Entity, Brush, at, up, over, among, is_linked, set_at, mark_at, kind_of, mark_of, with_mark, with_link, all_numbers, group}
 use Rattle.map_model.specs.Edits.{renew, each_in_turn}
 use Rattle.map_model.specs.Shape.{Shape, Marks}
 use Rattle.map_model.specs.Links.{AllOne}
 use Rattle.map_model.specs.Commands.{Command, Settings, Unlink}
 use Rattle.map_model.specs.Below.{Below}
 use Rattle.map_model.specs.Replies.{NotLinked}
-use Rattle.map_model.specs.Rows.{rows, first, refuse, no_node, repeated, wrong_kind, nested_ids, locked_layer, two_members, reserved_key, no_key, not_linked, named, edits}
+use Rattle.map_model.specs.Rows.{rows, first, no_node, repeated, wrong_kind, nested_ids, locked_layer, two_members, reserved_key, no_key, not_linked}
 use Rattle.map_model.specs.Apply.{prune, edited, marked, unmark, before_spread}
 use Rattle.map_laws.proofs.Lists.{by_eq, tally-member}
 use Rattle.map_laws.proofs.Beneath.{Beneath, itself, under}

@@ -1,19 +1,18 @@
 -- A group that leaves its set: where linked groups stand over nodes, and what stands as before.
-use Rattle.std.proofs.Common.{◌≡◌, ◌≢◌, ℕ, zero, suc, List, [], ◌++◌, Bool, true, false, refl, ap, sym, ◌∙◌, subst, arith, Option, Some, None, option_map}
+use Rattle.std.proofs.Common.{◌≡◌, ◌≢◌, ℕ, zero, suc, [], ◌++◌, Bool, true, false, refl, ap, sym, ◌∙◌, subst, Option, Some, None, option_map}
 use Rattle.std.specs.Prelude.{unwrap_or, is_some, option_and_then}
 use Rattle.std.proofs.lemmas.Bool.{true≢false}
 use Rattle.algebra.specs.Members.{◌∈◌}
 use Rattle.uv_lock.specs.declared.texture.Format.{Format}
-use Rattle.map_model.specs.Tree.{Whole, Node, World, Layer, Group, Entity, Brush, Link, group, at, up, over, above, above_by, children, is_kind, is_linked, link_at, set_at, mark_at, kind_of, parent_of, link_of, mark_of, with_link, format_of, format_of_node}
+use Rattle.map_model.specs.Tree.{Whole, Node, World, Layer, Group, Entity, Brush, group, at, up, over, above, above_by, children, is_linked, link_at, set_at, mark_at, kind_of, parent_of, link_of, mark_of, with_link, format_of, format_of_node}
 use Rattle.uv_lock.specs.declared.texture.Format.TheVariants.{Standard}
 use Rattle.map_model.specs.Edits.{renew}
 use Rattle.map_model.specs.Shape.{Shape, NodeOk, EachNode}
 use Rattle.map_laws.specs.Placed.{Placed, Bounded, NoEmptyGroup}
 use Rattle.map_laws.proofs.Lists.{by_eq, tally}
 use Rattle.map_laws.proofs.Beneath.{Beneath, itself, under}
-use Rattle.map_laws.proofs.Fuel.{Chains, from_above}
+use Rattle.map_laws.proofs.Fuel.{from_above}
 use Rattle.map_laws.proofs.Forest.{Grown, not_none, up_or_not, with_parent_live}
-use Rattle.map_laws.proofs.Nodes.{list_in}
 use Rattle.map_laws.proofs.Skeleton.{kind_at, list_at, forest, children_are, planted, unplanted, placed_of, kind_is, is_kind_by}
 use Rattle.map_laws.proofs.Slots.{slot_list, at-renew_same, at-renew_other, renew-keeps}
 use Rattle.map_laws.proofs.Placing.{chains}

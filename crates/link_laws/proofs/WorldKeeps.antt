@@ -1,13 +1,11 @@
 -- The commands that put a new node into the world, or change nothing of the map, keep the sets of linked groups: entity, layer and material.
-use Rattle.std.proofs.Common.{◌≡◌, ◌≢◌, ℕ, List, ℤ, [], ◌∷◌, flat_map, true, false, ◌==◌, refl, ap, sym, ◌∙◌, subst, arith, Some, None}
+use Rattle.std.proofs.Common.{◌≡◌, ◌≢◌, ℕ, List, ℤ, [], ◌∷◌, true, false, ◌==◌, refl, ap, sym, ◌∙◌, subst, arith, Some, None}
 use Rattle.std.proofs.lemmas.Bool.{eq-eqb, ne_eqb}
-use Rattle.algebra.specs.Members.{◌∈◌}
 use Rattle.map_model.specs.Tree.{Whole, Node, Kind, world, group, Layer as LayerNode, Entity as EntityNode, at, up, is_linked, kind_of, parent_of, brushes_of, others_of, with_parent, format_of}
 use Rattle.map_model.specs.Edits.{put_last}
 use Rattle.map_model.specs.Props.{classname, origin}
 use Rattle.map_model.specs.Shape.{Shape}
 use Rattle.map_model.specs.Commands.{Command, Entity, Layer, Material, point_in}
-use Rattle.map_model.specs.Rows.{named}
 use Rattle.map_model.specs.Own.{own, point_text}
 use Rattle.map_model.specs.Apply.{prune}
 use Rattle.map_laws.specs.Placed.{Placed, Bounded, NewOk, can_hold}

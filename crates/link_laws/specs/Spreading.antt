@@ -3,8 +3,7 @@ use Rattle.std.specs.Prelude.{◌≡◌, ◌≢◌, ℕ, ◌≤◌, IsTrue, Some
 use Rattle.map_model.specs.Tree.{Whole, is_linked, set_at}
 use Rattle.map_model.specs.Below.{Below}
 use Rattle.map_model.specs.Shape.{Shape, Standing, Numbers, Marks}
-use Rattle.map_model.specs.Links.{One, AllOne, spread}
-use Rattle.map_model.specs.Links.{OthersAgree}
+use Rattle.map_model.specs.Links.{One, AllOne, spread, OthersAgree}
 use Rattle.map_laws.specs.Placed.{Placed, Bounded}
 
 -- After a spread from g the map is one tree, each two members of its set are one content, and those of other sets are as they were.
