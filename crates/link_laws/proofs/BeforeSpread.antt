@@ -27,7 +27,8 @@ use Rattle.map_laws.proofs.Renewing.{linked_is}
 use Rattle.link_laws.proofs.Contents.{SameContent}
 use Rattle.link_laws.proofs.Edited.{group_linked, in_option}
 use Rattle.link_laws.proofs.Untouched.{over_is}
-use Rattle.link_laws.proofs.Remarked.{tally-filter, filter_member, member_filter, remarked, shape_after, spared_after, all_marked, Unchanged}
+use Rattle.link_laws.proofs.Filtering.{tally-filter, filter_member, member_filter}
+use Rattle.link_laws.proofs.Remarked.{remarked, shape_after, spared_after, all_marked, Unchanged}
 use Rattle.link_laws.proofs.MarkSteps.{same_linked, same_links}
 use Rattle.link_laws.proofs.Pairs.{Once, once_by}
 use Rattle.link_laws.proofs.SpreadOne.{set_linked}

@@ -37,7 +37,7 @@ use Rattle.link_laws.specs.Keeping.{KeepsAllOne}
 use Rattle.link_laws.proofs.Contents.{SameContent, same_by}
 use Rattle.link_laws.proofs.Edited.{group_linked, not_over_by, in_option}
 use Rattle.link_laws.proofs.Untouched.{Unedited, not_parent}
-use Rattle.link_laws.proofs.SpreadOne.{to_filter}
+use Rattle.link_laws.proofs.Filtering.{member_filter}
 use Rattle.link_laws.proofs.BeforeSpread.{Result, named_rooted, to_spread}
 use Rattle.link_laws.proofs.TwoMembers.{one_edited}
 use Rattle.link_laws.proofs.Finishing.{keeps}
@@ -78,7 +78,7 @@ module _ (b : Below) (s : Settings) (m : Whole) (shift : List ℤ) (ns : List �
       is = ap (λ o. unwrap_or (option_map faces_of o) []) e1
 
       is_listed : q ∈ all_moved_of m brush c
-      is_listed = to_filter (is_kind m brush) q (all_moved m c) i (ap (λ o. unwrap_or (option_map (has_kind brush) o) false) e1)
+      is_listed = member_filter (is_kind m brush) q (all_moved m c) i (ap (λ o. unwrap_or (option_map (has_kind brush) o) false) e1)
 
       range : (f : Face) → f ∈ faces → first_out_of_range (moved_plane (motion_of c) f.plane) ≡ None
       range f j = none_by (first_out_of_range (moved_plane (motion_of c) f.plane))

@@ -27,7 +27,8 @@ use Rattle.map_laws.proofs.Refused.{first_none}
 use Rattle.map_laws.proofs.Pruned.{chain_list, rooted_at}
 use Rattle.link_laws.proofs.Edited.{group_linked}
 use Rattle.link_laws.proofs.Untouched.{over_is}
-use Rattle.link_laws.proofs.Remarked.{find_is, by_option, linked_word}
+use Rattle.link_laws.proofs.Filtering.{find_is}
+use Rattle.link_laws.proofs.Remarked.{by_option, linked_word}
 
 -- Pruning leaves the parents of what is left.
 drops_ups : (before : Whole) (ns : List ℕ) (m : Whole) → Placed m → (q p : ℕ) → up (each_in_turn (drop_emptied before) ns m) q ≡ Some p → up m q ≡ Some p

@@ -21,7 +21,8 @@ use Rattle.map_laws.proofs.Pruned.{rooted_at, not_emptied, prune_none}
 use Rattle.map_laws.proofs.Renewing.{linked_is, renew_alike, same_children, same_over, Alike}
 use Rattle.link_laws.proofs.Contents.{SameContent, same_itself, same_content}
 use Rattle.link_laws.proofs.Edited.{group_linked}
-use Rattle.link_laws.proofs.Remarked.{tally-filter, filter_member, member_filter, remarked, shape_after, spared_after, all_marked, Unchanged}
+use Rattle.link_laws.proofs.Filtering.{tally-filter, filter_member, member_filter}
+use Rattle.link_laws.proofs.Remarked.{remarked, shape_after, spared_after, all_marked, Unchanged}
 use Rattle.link_laws.proofs.MarkSteps.{same_links}
 use Rattle.link_laws.proofs.Pairs.{Once, once_by}
 use Rattle.link_laws.proofs.SpreadOne.{set_linked}

@@ -27,7 +27,8 @@ use Rattle.link_laws.proofs.Members.{stays}
 use Rattle.link_laws.proofs.Spreading.{Field, Source, pair_of, content_p, node_p, one_step}
 use Rattle.link_laws.proofs.Keeping.{by_steps}
 use Rattle.link_laws.proofs.Ones.{Linked, field, source, root, cm, no_if, no_first, fault_of}
-use Rattle.link_laws.proofs.SpreadOne.{other_is, set_linked, to_filter}
+use Rattle.link_laws.proofs.Filtering.{member_filter}
+use Rattle.link_laws.proofs.SpreadOne.{other_is, set_linked}
 use Rattle.link_laws.proofs.Permutations.{leads_signed}
 use Rattle.link_laws.proofs.ImageNodes.{image_ok, renumber_ok, can_be_moved}
 
@@ -45,7 +46,7 @@ is_other m g h shape linked same ne = none_or_some (link_at m h)
     (λ l e.
     let low = (cm m shape).below h (root m shape h linked) in
     let own : set_at m h ≡ Some l.set = ap (option_map (λ l. l.set)) e in
-    to_filter (λ h. not (h == g) && is_one_number (set_at m h) (set_at m g)) h (all_numbers m)
+    member_filter (λ h. not (h == g) && is_one_number (set_at m h) (set_at m g)) h (all_numbers m)
     (tally-member h (all_numbers m) (omega (arith, tally-numbers_in 0 m.next h (omega arith) (omega (arith, low)))))
     (and_from (not (h == g)) _ (ap not (ne_eqb h g ne)) ((λ i. is_one_number (own i) ((same ∙ own) i)) ∙ eq-eqb l.set l.set refl)))
   where

@@ -15,6 +15,7 @@ use Rattle.map_laws.proofs.Lists.{by_eq, tally-member}
 use Rattle.map_laws.proofs.Skeleton.{list_at}
 use Rattle.map_laws.proofs.Slots.{by_bool}
 use Rattle.map_laws.proofs.Replacing.{tally-numbers_in, tally-numbers_out}
+use Rattle.link_laws.proofs.Filtering.{filter_member, member_filter}
 use Rattle.link_laws.proofs.Contents.{same_content}
 use Rattle.orient48.specs.Laws.{IsTurn}
 use Rattle.link_laws.specs.Spreading.{SpreadOne, SpreadOneLaw}
@@ -27,27 +28,10 @@ use Rattle.link_laws.proofs.Spreading.{Spreads, spreads}
 use Rattle.link_laws.proofs.Ones.{one_by, turns_at, turns_between, member_carries, Linked, linked_of, field, source, in_place, old_ok, old_values, root, cm, fm}
 
 -- ---- other members
-pub in_filter : (F : ℕ → Bool) (x : ℕ) (l : List ℕ) → x ∈ filter F l → (x ∈ l) × (F x ≡ true)
-in_filter F x [] i = elim i [ ]
-in_filter F x (y ∷ l) i = by_bool (F y)
-    (λ e. first y x l e (subst (λ b. x ∈ cond b (y ∷ filter F l) (filter F l)) e i) (in_filter F x l))
-    (λ e. let w = in_filter F x l (subst (λ b. x ∈ cond b (y ∷ filter F l) (filter F l)) e i) in (there w.0, w.1))
-  where
-    first : (y x : ℕ) (l : List ℕ) → F y ≡ true → x ∈ (y ∷ filter F l) → (x ∈ filter F l → (x ∈ l) × (F x ≡ true)) → (x ∈ (y ∷ l)) × (F x ≡ true)
-    first y x l e here more = (here, e)
-    first y x l e (there j) more = let w = more j in (there w.0, w.1)
-
-pub to_filter : (F : ℕ → Bool) (x : ℕ) (l : List ℕ) → x ∈ l → F x ≡ true → x ∈ filter F l
-to_filter F x [] i e = elim i [ ]
-to_filter F x (y ∷ l) here e = subst (λ b. x ∈ cond b (x ∷ filter F l) (filter F l)) (sym e) here
-to_filter F x (y ∷ l) (there i) e = by_bool (F y)
-    (λ f. subst (λ b. x ∈ cond b (y ∷ filter F l) (filter F l)) (sym f) (there (to_filter F x l i e)))
-    (λ f. subst (λ b. x ∈ cond b (y ∷ filter F l) (filter F l)) (sym f) (to_filter F x l i e))
-
 pub once_filter : (F : ℕ → Bool) (l : List ℕ) → Once l → Once (filter F l)
 once_filter F [] o = tt
 once_filter F (y ∷ l) o = by_bool (F y)
-    (λ e. subst (λ b. Once (cond b (y ∷ filter F l) (filter F l))) (sym e) ((λ i. o.0 (in_filter F y l i).0), once_filter F l o.1))
+    (λ e. subst (λ b. Once (cond b (y ∷ filter F l) (filter F l))) (sym e) ((λ i. o.0 (filter_member F y l i).0), once_filter F l o.1))
     (λ e. subst (λ b. Once (cond b (y ∷ filter F l) (filter F l))) (sym e) (once_filter F l o.1))
 
 pub once_numbers : (n : ℕ) → Once (numbers_from 0 n)
@@ -70,7 +54,7 @@ pub record Other (m : Whole) (g h : ℕ) : Type 0 where
 
 pub other_is : (m : Whole) (g h : ℕ) → h ∈ other_members m g → Other m g h
 other_is m g h i =
-    let w = in_filter (λ h. not (h == g) && is_one_number (set_at m h) (set_at m g)) h (all_numbers m) i in
+    let w = filter_member (λ h. not (h == g) && is_one_number (set_at m h) (set_at m g)) h (all_numbers m) i in
     let p = and_parts (not (h == g)) _ w.1 in
     let k = one_number (set_at m h) (set_at m g) p.1 in
     record { apart = not_itself h g p.0; set = k.0; own = k.1; same = k.2 }
@@ -174,7 +158,7 @@ module _ (b : Below) (m : Whole) (g : ℕ) (shape : Shape m) (linked : Linked m 
   in_others : (h s : ℕ) → h ≢ g → set_at m g ≡ Some s → set_at m h ≡ Some s → h ∈ other_members m g
   in_others h s ne e f =
       let low = (cm m shape).below h (root m shape h (set_linked m h s f)) in
-      to_filter (λ h. not (h == g) && is_one_number (set_at m h) (set_at m g)) h (all_numbers m)
+      member_filter (λ h. not (h == g) && is_one_number (set_at m h) (set_at m g)) h (all_numbers m)
       (tally-member h (all_numbers m) (omega (arith, tally-numbers_in 0 m.next h (omega arith) (omega (arith, low)))))
       (and_from (not (h == g)) _ (ap not (ne_eqb h g ne)) ((λ i. is_one_number (f i) (e i)) ∙ eq-eqb s s refl))
 

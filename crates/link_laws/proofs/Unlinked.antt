@@ -19,7 +19,8 @@ use Rattle.map_laws.proofs.Placing.{chains}
 use Rattle.map_laws.proofs.Renewing.{linked_is, renew_each}
 use Rattle.link_laws.proofs.Edited.{group_linked}
 use Rattle.link_laws.proofs.Untouched.{over_is}
-use Rattle.link_laws.proofs.Remarked.{find_is, by_option}
+use Rattle.link_laws.proofs.Filtering.{find_is}
+use Rattle.link_laws.proofs.Remarked.{by_option}
 
 -- A linked group over a node stands above its parent.
 pub over_from : (m : Whole) → Placed m → Bounded m → (n g : ℕ) → over m n ≡ Some g → (p : ℕ) × (up m n ≡ Some p) × Beneath (up m) g p × (is_linked m g ≡ true)
