@@ -3,7 +3,7 @@ use Rattle.std.proofs.Common.{◌≡◌, ℕ, Bool, true, false, List, ℤ, refl
 use Rattle.cmd_text.specs.declared.reply.Refusal.TheVariants.{NotBuilt}
 use Rattle.map_model.specs.Tree.{Held, whole, format_of}
 use Rattle.map_model.specs.Below.{Below, IsRight}
-use Rattle.map_model.specs.Commands.{Settings, Command, Material, Lock, Uv, Undo, Redo, Show, Tree}
+use Rattle.map_model.specs.Commands.{Settings, Command, Material, Lock, Uv, Undo, Redo, Show, Tree, Pick}
 use Rattle.map_model.specs.Replies.{Reply, Done, No, Memory}
 use Rattle.map_model.specs.History.{Records}
 use Rattle.map_model.specs.Apply.{apply}
@@ -11,7 +11,7 @@ use Rattle.map_model.specs.Machine.{State, Answer, Short, current, only, lock_an
 use Rattle.undo_log.specs.Log.{maps_of, place_of}
 use Rattle.tree_session.specs.Built.{changes_map}
 use Rattle.tree_session.specs.Sitting.{state_at, ObeysOrStops}
-use Rattle.tree_session.specs.Words.{TakesMaterial, SetsLock, GoesBackBy, GoesOnBy, ChangesBy, ListsNode, ListsTree, AnswersPoint}
+use Rattle.tree_session.specs.Words.{TakesMaterial, SetsLock, GoesBackBy, GoesOnBy, ChangesBy, ListsNode, ListsTree, AnswersPoint, AnswersRay}
 use Rattle.tree_session.proofs.States.{current_is}
 use Rattle.tree_session.proofs.WhichWords.{IsOther, obeys_changing, changing_may_want, refuses_other}
 
@@ -48,6 +48,9 @@ module _ (before : Held) (old : Records) (settings : Settings) where
 
   pub answers_point : (n face : ℕ) (p : List ℤ) (reply : Reply) → AnswersPoint (whole before) n face p reply → ObeysOrStops s (Uv n face p) (Short reply) s
   answers_point n face p reply e = inl (λ b right. e s (current_is before old settings) b right)
+
+  pub answers_ray : (from to : List ℤ) (reply : Reply) → AnswersRay (whole before) from to reply → ObeysOrStops s (Pick from to) (Short reply) s
+  answers_ray from to reply e = inl (λ b right. e s (current_is before old settings) b right)
 
   pub shows : (n : ℕ) (answer : Answer) → ListsNode (whole before) n answer → ObeysOrStops s (Show n) answer s
   shows n answer =

@@ -7,3 +7,4 @@ pub mod WhichWords
 pub mod Arms
 pub mod Serving
 pub mod FaceCoordinates
+pub mod Picks

@@ -23,6 +23,7 @@ changing_built Undo e = refl
 changing_built Redo e = refl
 changing_built (Show n) e = refl
 changing_built Tree e = refl
+changing_built (Pick from to) e = refl
 changing_built c e = e
 
 applies_changing : (b : Below) (s : State) (c : Command) → changes_map c ≡ true → obey b s c ≡ applied_answer s (apply b s.settings (current s) c)
@@ -59,6 +60,7 @@ pub record IsOther (c : Command) : Type 0 where
   pub not_redo : ¬ (c ≡ Redo)
   pub not_show : (n : ℕ) → ¬ (c ≡ Show n)
   pub not_tree : ¬ (c ≡ Tree)
+  pub not_pick : (from to : List ℤ) → ¬ (c ≡ Pick from to)
 
 not_built : (c : Command) → IsOther c → changes_map c ≡ false → is_built c ≡ false
 not_built (Material name) other e = absurd (other.not_material name refl)
@@ -68,6 +70,7 @@ not_built Undo other e = absurd (other.not_undo refl)
 not_built Redo other e = absurd (other.not_redo refl)
 not_built (Show n) other e = absurd (other.not_show n refl)
 not_built Tree other e = absurd (other.not_tree refl)
+not_built (Pick from to) other e = absurd (other.not_pick from to refl)
 not_built c other e = e
 
 pub refuses_other : (b : Below) (s : State) (c : Command) → IsOther c → changes_map c ≡ false → obey_built b s c ≡ refused s NotBuilt

@@ -4,7 +4,7 @@ use Rattle.line_machine.specs.Machine.{Step, NeverSaysMemory, IsAnsweredByFront}
 use Rattle.cmd_text.specs.declared.reply.Refusal.TheVariants.{NotBuilt}
 use Rattle.cmd_text.specs.Reading.{Read, line_read}
 use Rattle.map_model.specs.Below.{Below}
-use Rattle.map_model.specs.Commands.{Command, Material, Lock, Uv, Undo, Redo, Show, Tree}
+use Rattle.map_model.specs.Commands.{Command, Material, Lock, Uv, Undo, Redo, Show, Tree, Pick}
 use Rattle.map_model.specs.Machine.{State, Answered, Silent, Short, answer_text, only, refused, fault_reply, obey}
 use Rattle.tree_ops.specs.TreeCommands.{is_tree_command}
 use Rattle.edit_ops.specs.EditCommands.{is_edit_command}
@@ -22,6 +22,7 @@ is_built Undo = true
 is_built Redo = true
 is_built (Show n) = true
 is_built Tree = true
+is_built (Pick from to) = true
 is_built c = changes_map c
 
 -- What a command makes of a state: what the machine of all words says, where it is built. Else it is refused as not built.

@@ -3,3 +3,4 @@ pub mod Brushes
 pub mod Built
 pub mod Sitting
 pub mod Words
+pub mod Picks

@@ -5,7 +5,7 @@ use Rattle.uv_lock.specs.declared.texture.Format.TheVariants.{Standard, Valve}
 use Rattle.map_model.specs.Tree.{Whole, Held, Node, whole, at, format_of, kind_of}
 use Rattle.map_model.specs.Edits.{Changes, swap}
 use Rattle.map_model.specs.Below.{Below, IsRight}
-use Rattle.map_model.specs.Commands.{Settings, Command, Show, Tree, Uv}
+use Rattle.map_model.specs.Commands.{Settings, Command, Show, Tree, Uv, Pick}
 use Rattle.map_model.specs.Replies.{Refusal, Reply, Done, Memory, NoNode, WrongKind}
 use Rattle.map_model.specs.History.{Records}
 use Rattle.map_model.specs.Rows.{refuse, may_be_shown}
@@ -75,3 +75,7 @@ ListsTree m answer = Lists m Tree answer
 -- `uv` at the map m, whatever state has it as its current map.
 abbrev pub AnswersPoint : Whole → (n face : ℕ) → List ℤ → Reply → Type 0
 AnswersPoint m n face p reply = (s : State) → current s ≡ m → (b : Below) → IsRight b → obey b s (Uv n face p) ≡ only s (Short reply)
+
+-- `pick` at the map m, whatever state has it as its current map.
+abbrev pub AnswersRay : Whole → (from to : List ℤ) → Reply → Type 0
+AnswersRay m from to reply = (s : State) → current s ≡ m → (b : Below) → IsRight b → obey b s (Pick from to) ≡ only s (Short reply)

@@ -22,7 +22,8 @@ fn face_of(map: &Map, node: u32, face: u32) -> Option<&Face>
     }
 }
 
-fn point(at: [i32; 3]) -> Point
+/// The point of three coordinates.
+pub(crate) fn point(at: [i32; 3]) -> Point
     ensures { result ≡ point_in at }
 {
     let [x, y, z] = at;

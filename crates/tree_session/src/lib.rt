@@ -16,6 +16,7 @@ mod listings;
 mod material;
 mod obeying;
 mod own_words;
+mod picking;
 mod planned;
 mod reading;
 mod session;

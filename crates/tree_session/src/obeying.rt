@@ -8,6 +8,7 @@ use crate::answer::Answer;
 use crate::asking::uv;
 use crate::listings::{show, tree};
 use crate::own_words::{lock, redo, take_material, undo};
+use crate::picking::pick;
 use crate::planned::change;
 use crate::reading::changes_map;
 use cmd_text::{Command, Refusal, Reply};
@@ -36,6 +37,7 @@ fn obey_it(
         Command::Material { name } => Answer::Short(take_material(alloc, settings, name)),
         Command::Lock { on } => Answer::Short(lock(settings, map, *on)),
         Command::Uv { node, face, at } => Answer::Short(uv(map, *node, *face, *at)),
+        Command::Pick { from, to } => Answer::Short(pick(map, *from, *to)),
         Command::Undo => Answer::Short(undo(history, map)),
         Command::Redo => Answer::Short(redo(history, map)),
         Command::Show { node } => show(alloc, map, *node),

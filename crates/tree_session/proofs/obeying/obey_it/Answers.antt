@@ -1,7 +1,7 @@
 use Rattle.std.proofs.Common.{subst, sym}
 use Rattle.map_model.specs.Machine.{Short}
 use Rattle.tree_session.specs.Sitting.{state_at, answer_of, ObeysOrStops}
-use Rattle.tree_session.proofs.Arms.{changes, locks, answers_point, shows, lists_tree}
+use Rattle.tree_session.proofs.Arms.{changes, locks, answers_point, answers_ray, shows, lists_tree}
 use Rattle.tree_session.proofs.obeying.obey_it.Goals as goal
 
 pub returns-then-changes_map-clause-answer : goal.returns-then-changes_map-clause-answer
@@ -21,6 +21,12 @@ returns-in-Uv-clause-answer c =
     let s = state_at c.args.map.now c.args.history.now.records c.args.settings.now in
     subst (λ k. ObeysOrStops s k (Short c.uv.result) s) (sym c.in-Uv.is)
     (answers_point c.args.map.now c.args.history.now.records c.args.settings.now _ _ _ c.uv.result c.uv.ensures)
+
+pub returns-in-Pick-clause-answer : goal.returns-in-Pick-clause-answer
+returns-in-Pick-clause-answer c =
+    let s = state_at c.args.map.now c.args.history.now.records c.args.settings.now in
+    subst (λ k. ObeysOrStops s k (Short c.pick.result) s) (sym c.in-Pick.is)
+    (answers_ray c.args.map.now c.args.history.now.records c.args.settings.now _ _ c.pick.result c.pick.ensures)
 
 pub returns-in-Show-clause-answer : goal.returns-in-Show-clause-answer
 returns-in-Show-clause-answer c =
