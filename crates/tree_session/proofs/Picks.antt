@@ -105,11 +105,17 @@ module _ (m : Whole) (a b : Vector) (n : ℕ) where
 
 -- Going through the numbers. ------------------------------------------------------------------------------------------------------------------
 
-one_number_more : (k n : ℕ) → numbers_from k (n + 1) ≡ numbers_from k n ++ (k + n) ∷ []
+one_number_more : (k n : ℕ) → numbers_from k (suc n) ≡ numbers_from k n ++ (k + n) ∷ []
 one_number_more k zero = let z : k ≡ k + 0 = omega arith in ap (λ j. j ∷ []) z
 one_number_more k (suc n) =
     let z : (k + 1) + n ≡ k + suc n = omega arith in
     ap (λ l. k ∷ l) (one_number_more (k + 1) n ∙ ap (λ j. numbers_from (k + 1) n ++ j ∷ []) z)
+
+numbers_more : (k : ℕ) → numbers_from 0 (k + 1) ≡ numbers_from 0 k ++ k ∷ []
+numbers_more k =
+    let next : k + 1 ≡ suc k = omega arith in
+    let none : 0 + k ≡ k = omega arith in
+    ap (numbers_from 0) next ∙ one_number_more 0 k ∙ ap (λ j. numbers_from 0 k ++ j ∷ []) none
 
 kept_one : {A : Type 0} (t : Bool) (f : ℕ → List A) (n : ℕ) → flat_map f (cond t (n ∷ []) []) ≡ cond t (f n) []
 kept_one true f n = append-nil (f n)
@@ -117,7 +123,7 @@ kept_one false f n = refl
 
 hits_more : (m : Whole) (a b : Vector) (k : ℕ) → hits_below m a b (k + 1) ≡ hits_below m a b k ++ hits_at m a b k
 hits_more m a b k =
-    ap (λ ns. flat_map (hit_of m a b) (filter (is_brush m) ns)) (one_number_more 0 k)
+    ap (λ ns. flat_map (hit_of m a b) (filter (is_brush m) ns)) (numbers_more k)
     ∙ ap (flat_map (hit_of m a b)) (filter-append (is_brush m) (numbers_from 0 k) (k ∷ []))
     ∙ flat_map-append (hit_of m a b) (filter (is_brush m) (numbers_from 0 k)) (filter (is_brush m) (k ∷ []))
     ∙ ap (λ l. hits_below m a b k ++ l) (kept_one (is_brush m k) (hit_of m a b) k)
@@ -148,6 +154,9 @@ chosen_is P true met next chosen p q e = let same : next ≡ chosen = cc in subs
 chosen_is P false met next chosen p q e = let same : met ≡ chosen = cc in subst P same p
 
 module _ (m : Whole) (a b : Vector) where
+  abbrev next_met : ℕ → Hit → Met
+  next_met k h = record { node = k; hit = h }
+
   abbrev HasFace : Met → Type 0
   HasFace met = face_on m a b (ray_hit_of met) ≡ met.hit.face
 
@@ -163,10 +172,10 @@ module _ (m : Whole) (a b : Vector) where
     hit =
         ap nearest (hits_more m a b k ∙ ap (λ l. hits_below m a b k ++ l) now.hits) ∙ with_one (hits_below m a b k) (ray_hit k h)
         ∙ ap (λ o. Some (nearer_of o (ray_hit k h))) old.hit;
-    face = λ met is. let same : record { node = k; hit = h } ≡ met = cc in subst HasFace same (now.face h refl);
+    face = λ met is. let same : next_met k h ≡ met = cc in subst HasFace same (now.face h refl);
   }
   one_more k (Some met) (Some h) old now =
-      let next = record { node = k; hit = h } in
+      let next = next_met k h in
       let t = int_lt (h.at.num *ℤ met.hit.at.den) (met.hit.at.num *ℤ h.at.den) in
       record {
         hit =
