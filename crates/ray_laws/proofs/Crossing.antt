@@ -1,18 +1,16 @@
 -- The fraction at which a ray crosses a plane ahead.
-use Rattle.std.proofs.Common.{◌≡◌, ◌≢◌, Bool, true, false, not, ◌&&◌, ◌||◌, ℤ, pos, ◌*ℤ◌, ◌-ℤ◌, ◌<ℤ◌, ◌≤ℤ◌, arith, refl, sym, subst, ap, ◌∙◌, true≢false, ◌⊎◌, inl, inr, neg_ℤ, negsuc, [], ◌∷◌}
+use Rattle.std.proofs.Common.{◌≡◌, ◌≢◌, Bool, true, false, not, ◌&&◌, ◌||◌, ℤ, pos, ◌*ℤ◌, ◌-ℤ◌, ◌<ℤ◌, ◌≤ℤ◌, arith, refl, sym, subst, ◌∙◌, true≢false, inl, inr, neg_ℤ, negsuc, [], ◌∷◌}
 use Rattle.std.specs.Prelude.{int_lt}
 use Rattle.std.specs.Ordering.{int_eq}
 use Rattle.std.proofs.lemmas.Int.{ints}
 use Rattle.std.proofs.lemmas.Bool.Decides.{Decides-int_eq}
-use Rattle.algebra.specs.Space.{Vector, HalfSpace, side, whole_point}
+use Rattle.algebra.specs.Space.{side}
 use Rattle.algebra.proofs.Expr.{read}
 use Rattle.algebra.proofs.Ring.{ring}
 use Rattle.algebra.proofs.Orders.{by_sign, positive-mul, negative-mul, positive_of_product, negative_of_product, nonneg_of_positive, zero-mul, zero_product, eq_by, eq_by_2, positive-neg}
 use Rattle.std.proofs.Math.IntN.{*ℤ_comm}
 use Rattle.map_model.specs.Carry.{Fraction, fraction}
-use Rattle.map_model.specs.Rays.{crossing, crosses_ahead}
 use Rattle.map_model.proofs.Members.{decides_less}
-use Rattle.lock_laws.specs.Laws.{IsLowest}
 use Rattle.lock_laws.proofs.Numbers.{lowest_terms}
 use Rattle.ray_laws.proofs.LowestTerms.{IsPlain, same_fraction}
 

@@ -1,17 +1,15 @@
 -- The first face that has a point on its plane.
-use Rattle.std.proofs.Common.{◌≡◌, ◌≢◌, ℕ, zero, suc, ◌+◌, Bool, true, false, cond, List, [], ◌∷◌, ◌++◌, length, map, Option, Some, None, option_map, ℤ, pos, ◌<ℤ◌, arith, refl, sym, subst, ap, ap₂, ◌∙◌, true≢false}
-use Rattle.std.specs.Prelude.{slice_get}
+use Rattle.std.proofs.Common.{◌≡◌, ◌≢◌, ℕ, suc, ◌+◌, Bool, true, false, cond, List, [], ◌∷◌, ◌++◌, length, Option, Some, None, option_map, ℤ, pos, ◌<ℤ◌, arith, refl, sym, ap, ◌∙◌}
 use Rattle.std.specs.List.{find, enumerate_from}
 use Rattle.std.specs.Ordering.{int_eq}
 use Rattle.std.proofs.lemmas.Int.{ints}
 use Rattle.std.proofs.lemmas.Bool.Decides.{Decides-int_eq}
-use Rattle.algebra.specs.Members.{◌∈◌, here, there, Every}
+use Rattle.algebra.specs.Members.{here, there, Every}
 use Rattle.algebra.specs.Space.{HalfSpace, Homogeneous, side}
 use Rattle.exact_geom.specs.Planes.{half_space}
-use Rattle.ray_pick.specs.Rays.{IsFirstOn, IsFaceAt}
 use Rattle.map_model.specs.Faces.{Face}
 use Rattle.map_model.specs.Shape.{half_spaces}
-use Rattle.ray_laws.specs.Laws.{first_face, FaceLaw}
+use Rattle.ray_laws.specs.Laws.{FaceLaw}
 
 module _ (p : Homogeneous) where
   abbrev is_on : ℕ × Face → Bool

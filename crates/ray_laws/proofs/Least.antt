@@ -1,5 +1,5 @@
 -- The least of some fractions.
-use Rattle.std.proofs.Common.{◌≡◌, Bool, true, false, cond, List, [], ◌∷◌, ℤ, pos, ◌*ℤ◌, ◌<ℤ◌, arith, refl, sym, subst, ap, ◌∙◌, true≢false, ◌⊎◌, inl, inr, ⊎_elim, Some, None}
+use Rattle.std.proofs.Common.{◌≡◌, Bool, true, false, cond, List, [], ◌∷◌, ℤ, ◌*ℤ◌, ◌<ℤ◌, arith, refl, subst, ap, ◌∙◌, ◌⊎◌, inl, inr, Some, None}
 use Rattle.std.specs.Prelude.{int_lt}
 use Rattle.std.proofs.lemmas.Int.{ints}
 use Rattle.algebra.specs.Members.{◌∈◌, here, there, Every}

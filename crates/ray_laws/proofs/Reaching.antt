@@ -1,25 +1,22 @@
 -- A ray's hit is the least of the fractions that maps compute.
-use Rattle.std.proofs.Common.{◌≡◌, ◌≢◌, ℕ, zero, suc, ◌*◌, ◌≤◌, Bool, true, List, [], ◌∷◌, map, Option, Some, None, option_map, ℤ, pos, ◌*ℤ◌, ◌-ℤ◌, ◌<ℤ◌, ◌≤ℤ◌, unsigned_abs, arith, refl, sym, subst, ap, ◌∙◌, ◌⊎◌, inl, inr, ⊎_elim}
+use Rattle.std.proofs.Common.{◌≡◌, ℕ, ◌*◌, ◌≤◌, Bool, true, List, ◌∷◌, map, Some, None, ℤ, pos, ◌*ℤ◌, ◌<ℤ◌, ◌≤ℤ◌, unsigned_abs, arith, sym, subst, ap, ◌∙◌, ◌⊎◌, inl, inr, ⊎_elim}
 use Rattle.std.specs.Prelude.{filter, int_le}
 use Rattle.std.specs.List.{list_all}
 use Rattle.std.proofs.lemmas.Int.{ints}
-use Rattle.algebra.specs.Members.{◌∈◌, here, there, Every}
+use Rattle.algebra.specs.Members.{◌∈◌, here, there}
 use Rattle.algebra.specs.Space.{Vector, HalfSpace, side, whole_point}
 use Rattle.algebra.proofs.Orders.{by_order, by_sign}
 use Rattle.trim_laws.specs.Solid.{IsIn}
-use Rattle.ray_pick.specs.declared.picking.Hit.{Hit}
-use Rattle.ray_pick.specs.Rays.{Fraction as Share, point_at, IsOnRay, IsEarlier, IsRatio, Reaches, Misses}
-use Rattle.ray_pick.specs.Hits.{Hits, IsHit}
+use Rattle.ray_pick.specs.Rays.{Fraction as Share, point_at, IsOnRay, Reaches, Misses}
 use Rattle.ray_pick.proofs.Crossings.{side_at}
-use Rattle.fixed_num.specs.Fraction.{IsReduced}
-use Rattle.map_model.specs.Carry.{Fraction, fraction}
+use Rattle.map_model.specs.Carry.{Fraction}
 use Rattle.map_model.specs.Rays.{on_ray, crossing, crosses_ahead, least, reach}
 use Rattle.map_model.proofs.Members.{decides_most, in_filter, filter_in, in_map, map_in, all_decides}
 use Rattle.ray_laws.specs.Laws.{of_share, ReachLaw}
 use Rattle.ray_laws.proofs.LowestTerms.{IsPlain, same_fraction}
 use Rattle.ray_laws.proofs.Before.{before, before_on_ray, before_earlier, fall, Crosses, IsInBefore, crossed_or_in}
 use Rattle.ray_laws.proofs.Crossing.{tells_ahead, is_plain, crossed_ahead, crossed_at}
-use Rattle.ray_laws.proofs.Least.{IsLess, IsOrAfter, least_is, least_none}
+use Rattle.ray_laws.proofs.Least.{IsOrAfter, least_is, least_none}
 
 abbrev share : Fraction → Share
 share t = record { num = t.num; den = t.den }

@@ -1,5 +1,5 @@
 -- The first brush on a ray, found by going through the numbers.
-use Rattle.std.proofs.Common.{◌≡◌, ℕ, zero, suc, ◌+◌, ◌<◌, Bool, true, false, cond, List, [], ◌∷◌, ◌++◌, Option, Some, None, option_map, ℤ, ◌*ℤ◌, ◌^◌, unsigned_abs, to_z, of_z, refl, ap, ap₂, sym, subst, ◌∙◌, arith, append-nil, true≢false, ◌&&◌}
+use Rattle.std.proofs.Common.{◌≡◌, ℕ, zero, suc, ◌+◌, ◌<◌, Bool, true, false, cond, List, [], ◌∷◌, ◌++◌, Option, Some, None, option_map, ℤ, ◌*ℤ◌, ◌^◌, unsigned_abs, to_z, of_z, refl, ap, sym, subst, ◌∙◌, arith, append-nil, true≢false, ◌&&◌}
 use Rattle.std.specs.Prelude.{IsTrue, filter, flat_map, int_lt, option_and_then, unwrap_or}
 use Rattle.std.specs.Bool.{Decides}
 use Rattle.std.specs.Int.{w128}
@@ -20,17 +20,15 @@ use Rattle.ray_laws.specs.Laws.{of_share, first_face}
 use Rattle.ray_laws.proofs.Reaching.{reach_is}
 use Rattle.ray_laws.proofs.FirstFace.{face_is}
 use Rattle.cmd_text.specs.Kept.{IsPoint}
-use Rattle.map_nodes.specs.Fractions.{fraction_of}
 use Rattle.map_model.specs.Faces.{Face}
 use Rattle.map_model.specs.Carry.{Fraction}
-use Rattle.map_model.specs.Tree.{Whole, Node, World, Layer, Group, Entity, Brush, at, has, has_kind, brush, is_brush, faces_at, faces_of, numbers_from, all_brushes}
+use Rattle.map_model.specs.Tree.{Whole, Node, World, Layer, Group, Entity, Brush, at, has_kind, brush, is_brush, faces_of, numbers_from, all_brushes}
 use Rattle.map_model.specs.Shape.{half_spaces}
 use Rattle.map_model.specs.Rays.{reach}
 use Rattle.map_model.specs.Brushes.{is_same_point}
-use Rattle.map_model.specs.Below.{Below, IsRight}
 use Rattle.map_model.specs.Commands.{point_in}
 use Rattle.map_model.specs.Replies.{Reply, No, NoRay, NoHit, kept}
-use Rattle.map_model.specs.Machine.{State, Short, RayHit, hit_of, nearest_from, face_on, pick_reply, pick_answer, current, only}
+use Rattle.map_model.specs.Machine.{Short, RayHit, hit_of, nearest_from, face_on, pick_reply, pick_answer, only}
 use Rattle.map_model.proofs.KeptFractions.{kept_law}
 use Rattle.map_model.proofs.Members.{decides_less}
 use Rattle.map_laws.proofs.BoxCommand.{near}
