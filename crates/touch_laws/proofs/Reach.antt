@@ -14,7 +14,6 @@ use Rattle.vertex_laws.proofs.Corner.{corner_below}
 use Rattle.solid_laws.specs.Names.{AreVertices}
 use Rattle.solid_laws.proofs.Holds.{holds_vertices}
 use Rattle.touch_laws.specs.Boxes.{IsLow, IsHigh}
-use Rattle.touch_laws.proofs.Strict.{Straight}
 
 -- The coordinate as a side: of the plane through the origin along a normal.
 level : Vector → HalfSpace
@@ -58,12 +57,28 @@ module _ (F : List HalfSpace) (n : Vector) (low : ℤ) (V : List Homogeneous) (b
         (subst (λ k. (k *ℤ p.weight) ≤ℤ (dot n p.vector *ℤ c.at.weight)) (side-level n c.at)
           (subst (λ k. (side (level n) c.at *ℤ p.weight) ≤ℤ (k *ℤ c.at.weight)) (side-level n p) c.lower.le))
 
--- ---- the least whole bound of a coordinate of a solid, by its vertices
-pub low_is : {coordinate : Vector → ℤ} (straight : Straight coordinate) (F : List HalfSpace) (low : ℤ) (V : List Homogeneous) → Bounded F → AreVertices F V →
-    ((v : Homogeneous) → v ∈ V → (low *ℤ v.weight) ≤ℤ coordinate v.vector) →
+-- ---- the greatest whole bound of a coordinate of a solid, by its vertices
+pub low_is : (coordinate : Vector → ℤ) (n : Vector) → ((v : Vector) → dot n v ≡ coordinate v) → (F : List HalfSpace) (low : ℤ) (V : List Homogeneous) →
+    Bounded F → AreVertices F V → ((v : Homogeneous) → v ∈ V → (low *ℤ v.weight) ≤ℤ coordinate v.vector) →
     ((k : ℤ) → ((p : Homogeneous) → IsIn F p → (k *ℤ p.weight) ≤ℤ coordinate p.vector) → k ≤ℤ low) → IsLow coordinate F low
-low_is {coordinate} straight F low V bounded vertices each greatest = record {
-  below = λ p i. subst (λ k. (low *ℤ p.weight) ≤ℤ k) (straight.is_dot p.vector)
-      (below_all F straight.step low V bounded vertices (λ v m. subst (λ k. (low *ℤ v.weight) ≤ℤ k) (sym (straight.is_dot v.vector)) (each v m)) p i);
+low_is coordinate n is_dot F low V bounded vertices each greatest = record {
+  below = λ p i. subst (λ k. (low *ℤ p.weight) ≤ℤ k) (is_dot p.vector)
+      (below_all F n low V bounded vertices (λ v m. subst (λ k. (low *ℤ v.weight) ≤ℤ k) (sym (is_dot v.vector)) (each v m)) p i);
   greatest = greatest;
+}
+
+-- ---- the other way along the axis
+turned_above : (low w v : ℤ) → (low *ℤ w) ≤ℤ neg_ℤ v → v ≤ℤ (neg_ℤ low *ℤ w)
+turned_above low w v h = let e : neg_ℤ low *ℤ w ≡ neg_ℤ (low *ℤ w) = ring (low ∷ w ∷ []) (search read depth 20) tt in omega (arith, ints)
+
+turned_below : (k w v : ℤ) → v ≤ℤ (k *ℤ w) → (neg_ℤ k *ℤ w) ≤ℤ neg_ℤ v
+turned_below k w v h = let e : neg_ℤ k *ℤ w ≡ neg_ℤ (k *ℤ w) = ring (k ∷ w ∷ []) (search read depth 20) tt in omega (arith, ints)
+
+turned_least : (k low : ℤ) → neg_ℤ k ≤ℤ low → neg_ℤ low ≤ℤ k
+turned_least k low h = omega (arith, ints)
+
+pub high_of_low : (coordinate : Vector → ℤ) (F : List HalfSpace) (low : ℤ) → IsLow (λ v. neg_ℤ (coordinate v)) F low → IsHigh coordinate F (neg_ℤ low)
+high_of_low coordinate F low l = record {
+  above = λ p i. turned_above low p.weight (coordinate p.vector) (l.below p i);
+  least = λ k each. turned_least k low (l.greatest (neg_ℤ k) (λ p i. turned_below k p.weight (coordinate p.vector) (each p i)));
 }

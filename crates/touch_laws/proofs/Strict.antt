@@ -44,9 +44,6 @@ pub along_z : Straight (λ v. v.z)
 unfolding unit dot plus scale
 along_z = record { step = unit (pos 0) (pos 0) (pos 1); is_dot = λ v. dot_z v.x v.y v.z; stepped = λ n t v. along_plain n t v.z }
 
-neg_dot_plain : (x y z a b c : ℤ) → neg_ℤ x *ℤ a +ℤ neg_ℤ y *ℤ b +ℤ neg_ℤ z *ℤ c ≡ neg_ℤ (x *ℤ a +ℤ y *ℤ b +ℤ z *ℤ c)
-neg_dot_plain x y z a b c = ring (x ∷ y ∷ z ∷ a ∷ b ∷ c ∷ []) (search read depth 20) tt
-
 -- ---- a short step from a point inside stays in the solid
 pub record Stepped (F : List HalfSpace) (p : Homogeneous) (t : ℤ) (m : Vector) : Type 0 where
   pub n : ℤ
