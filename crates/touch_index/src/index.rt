@@ -1,8 +1,9 @@
 //! The index of boxes.
 
-ghost use Rattle.std.specs.Prelude.{◌≡◌, ℕ, ◌<◌, ◌≤◌, length, IfOk, OnOk};
+ghost use Rattle.std.specs.Prelude.{◌≡◌, ℕ, Option, ◌<◌, ◌≤◌, length, IfOk, OnOk};
 ghost use Rattle.map_model.specs.Tree.{Whole, whole};
 ghost use Rattle.map_model.specs.Edits.{swap};
+ghost use Rattle.touch_index.specs.declared.bounds.Bounds.{Bounds as Box};
 ghost use Rattle.touch_index.specs.Index.{box_at, AreBoxes, planned, HasRoom, IsBoxOfNode};
 
 use crate::bounds::Bounds;
@@ -85,7 +86,7 @@ impl TouchIndex {
 
 // The boxes of what the entries put in place.
 fn boxes_of(alloc: Global, entries: &[Entry]) -> Result<Vec<BoxEntry>, AllocError>
-    ensures { IfOk result (λ plan. (m : Whole) (next : ℕ) (boxes : ℕ → Option Bounds) → AreBoxes m boxes →
+    ensures { IfOk result (λ plan. (m : Whole) (next : ℕ) (boxes : ℕ → Option Box) → AreBoxes m boxes →
         AreBoxes (swap m (record { entries = entries.now; next = next })) (planned plan.items boxes)) }
 {
     let mut plan = Vec::new(alloc);

@@ -9,12 +9,12 @@
 mod bounds;
 mod index;
 mod joining;
-mod overlap;
+mod overlapping;
 mod plan;
 mod touching;
 mod way;
 
 pub use bounds::Bounds;
 pub use index::TouchIndex;
-pub use overlap::overlap;
+pub use overlapping::overlap;
 pub use plan::{BoxEntry, TouchPlan};

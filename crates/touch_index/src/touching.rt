@@ -10,7 +10,7 @@ ghost use Rattle.touch_index.specs.Touching.{AreTouching, has_near_box, both_mee
 
 use crate::bounds::Bounds;
 use crate::index::TouchIndex;
-use crate::overlap::overlap;
+use crate::overlapping::overlap;
 use exact_geom::Steps;
 use map_nodes::{Body, Node, NodeId};
 use std::alloc::{AllocError, Global};

@@ -1,8 +1,7 @@
 //! The ways along the axes.
 
-ghost use Rattle.std.specs.Prelude.{◌≡◌, ◌×◌, ◌*ℤ◌, ◌≤ℤ◌, ◌≤◌, pos, neg_ℤ, unsigned_abs};
+ghost use Rattle.std.specs.Prelude.{◌≡◌, ℤ, ◌*ℤ◌, ◌≤ℤ◌, ◌≤◌, pos, neg_ℤ, unsigned_abs};
 ghost use Rattle.algebra.specs.World.{InCube, world, world_limit};
-ghost use Rattle.exact_geom.specs.Limits.{weight_limit};
 ghost use Rattle.solid_brush.specs.Sides.{half_spaces};
 ghost use Rattle.touch_laws.specs.Boxes.{IsLow};
 ghost use Rattle.touch_index.specs.Bounds.{along, IsFloor};
@@ -59,13 +58,19 @@ impl Way {
             let Some(vertex) = solid.vertex(k) else {
                 unreachable!()
             };
-            let place = self.floor(&vertex);
-            if place < low {
-                low = place;
-            }
+            low = lower(low, self.floor(&vertex));
         }
         low
     }
+}
+
+// The lower one of two numbers.
+fn lower(a: i32, b: i32) -> i32
+    ensures first { result ≤ℤ a }
+    ensures second { result ≤ℤ b }
+    ensures one { (k : ℤ) → k ≤ℤ a → k ≤ℤ b → k ≤ℤ result }
+{
+    if b < a { b } else { a }
 }
 
 // The greatest whole number that is at most x / w.
