@@ -1,2 +1,3 @@
-pub mod Floors
-pub mod Lows
+pub mod Joins
+pub mod Worlds
+pub mod Overlaps

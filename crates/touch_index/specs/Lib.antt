@@ -1,4 +1,1 @@
-pub mod Bounds
 pub mod Joined
-pub mod Index
-pub mod Touching
