@@ -7,7 +7,6 @@ use Rattle.trim_laws.specs.Solid.{IsIn, IsInside, Proper, Bounded}
 use Rattle.std.proofs.lemmas.Bool.{false≢true}
 use Rattle.trim_laws.specs.Valid.{Valid, HasInside, NoVolume, Cause, HasCause, no_volume, out_of_world, too_many_faces, is_no_volume, is_out_of_world, is_too_many}
 use Rattle.trim_laws.proofs.Bearing.{in_of_inside}
-use Rattle.vertex_laws.proofs.Cube.{of_walls, in_walls}
 use Rattle.solid_laws.proofs.World.{world_bounded}
 use Rattle.solid_brush.proofs.Meeting.{trimmed_proper}
 use Rattle.map_model.specs.Below.{Below, IsRight, SomeAreRight}
