@@ -31,6 +31,7 @@ pub fn is_edit_command(c: &Command) -> bool
             | Command::Turn { .. }
             | Command::Flip { .. }
             | Command::Clip { .. }
+            | Command::Subtract { .. }
             | Command::Tex { .. }
     )
 }
@@ -52,6 +53,7 @@ pub fn edit(alloc: Global, map: &Map, set: &Settings, c: &Command) -> Result<Pla
         Command::Turn { .. } => plan_moving(alloc, map, set, c),
         Command::Flip { .. } => plan_moving(alloc, map, set, c),
         Command::Clip { .. } => cut_plans::edit(alloc, map, set, c),
+        Command::Subtract { .. } => cut_plans::edit(alloc, map, set, c),
         Command::Tex { node, face, .. } => plan_tex(alloc, map, set, c, NodeId(*node), *face),
         _ => unreachable!(),
     }
