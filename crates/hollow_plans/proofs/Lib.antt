@@ -1,0 +1,10 @@
+pub mod BoxTests
+pub mod InnerBoxes
+pub mod Pieces
+pub mod ShortSides
+pub mod BoxWalls
+pub mod PuttingWalls
+pub mod HollowRows
+pub mod HollowedLists
+pub mod HollowOutcomes
+pub mod WhichCommand

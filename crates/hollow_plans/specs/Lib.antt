@@ -1,0 +1,3 @@
+-- Definitions.
+pub mod HollowCommands
+pub mod Walls
