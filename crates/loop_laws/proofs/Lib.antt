@@ -1,0 +1,4 @@
+pub mod FaceLoops
+pub mod Places
+pub mod Faces
+pub mod Lists

@@ -1,0 +1,5 @@
+mod Turned
+mod Millionths
+mod Pieces
+mod Counting
+mod Walking
