@@ -32,6 +32,7 @@ pub fn is_edit_command(c: &Command) -> bool
             | Command::Flip { .. }
             | Command::Clip { .. }
             | Command::Subtract { .. }
+            | Command::Hollow { .. }
             | Command::Tex { .. }
     )
 }
@@ -54,6 +55,7 @@ pub fn edit(alloc: Global, map: &Map, set: &Settings, c: &Command) -> Result<Pla
         Command::Flip { .. } => plan_moving(alloc, map, set, c),
         Command::Clip { .. } => cut_plans::edit(alloc, map, set, c),
         Command::Subtract { .. } => cut_plans::edit(alloc, map, set, c),
+        Command::Hollow { .. } => hollow_plans::edit(alloc, map, set, c),
         Command::Tex { node, face, .. } => plan_tex(alloc, map, set, c, NodeId(*node), *face),
         _ => unreachable!(),
     }

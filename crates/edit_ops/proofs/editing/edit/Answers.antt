@@ -10,5 +10,6 @@ unreachable-requires c = none_other c.args.c.now c.requires.own (record {
   flip = c.in_default.not-Flip;
   clip = c.in_default.not-Clip;
   subtract = c.in_default.not-Subtract;
+  hollow = c.in_default.not-Hollow;
   tex = c.in_default.not-Tex;
 })
