@@ -1,10 +1,11 @@
-"""Draws an exported map: reads an OBJ text and writes an SVG picture.
+"""Draws exported maps: reads OBJ texts and writes an SVG picture, with the maps side by side at one scale.
 
-    python3 docs/pictures/draw.py MAP.obj PICTURE.svg [AZIMUTH ELEVATION]
+    python3 docs/pictures/draw.py MAP.obj .. PICTURE.svg [AZIMUTH ELEVATION]
 
-The map is seen from far away, from AZIMUTH degrees (0 is along the x axis, 90 along the y axis) and ELEVATION degrees above the
-ground; 235 and 30 where they are left out. Only faces that look at the eye are drawn, the farther brushes first. Each material has
-a colour of its own. It needs Python 3 and nothing else.
+A map is seen from far away, from AZIMUTH degrees (0 is along the x axis, 90 along the y axis) and ELEVATION degrees above the
+ground; 235 and 30 where they are left out. Only faces that look at the eye are drawn, the farther brushes first; of two brushes
+that overlap one is cut up into what lies outside the other. Each material has a colour of its own. It needs Python 3 and nothing
+else.
 """
 
 import colorsys
@@ -14,6 +15,7 @@ import zlib
 
 WIDTH = 960
 MARGIN = 20
+GAP = 80
 NEAR = 1e-6
 
 
@@ -70,6 +72,54 @@ def corners(brush):
     return [point for _, points in brush for point in points]
 
 
+def planes(brush):
+    """The outward normal and the level of each face."""
+    return [(n, dot(n, points[0])) for n, points in ((normal(points), points) for _, points in brush)]
+
+
+def part(points, n, level):
+    """What lies of a face on the inner side of a plane."""
+    kept = []
+    for a, b in zip(points, points[1:] + points[:1]):
+        p, q = dot(n, a) - level, dot(n, b) - level
+        if p <= NEAR:
+            kept.append(a)
+        if (p < -NEAR and q > NEAR) or (p > NEAR and q < -NEAR):
+            kept.append(tuple(x + (y - x) * p / (p - q) for x, y in zip(a, b)))
+    return kept if len(kept) > 2 else []
+
+
+def parts(brush, n, level):
+    """What lies of the faces of a brush on the inner side of a plane; a face in the plane isn't taken."""
+    cut = [(material, part(points, n, level)) for material, points in brush]
+    return [(material, points) for material, points in cut if any(dot(n, p) < level - NEAR for p in points)]
+
+
+def outside(brush, other):
+    """What lies of the faces of a brush outside another one, piece by piece."""
+    pieces = []
+    for n, level in planes(other):
+        pieces.append(parts(brush, tuple(-x for x in n), -level))
+        brush = parts(brush, n, level)
+    return [piece for piece in pieces if piece]
+
+
+def are_apart(one, other):
+    """Whether some face of one of them parts the two."""
+    return any(all(dot(n, p) >= level - NEAR for p in corners(rest)) for brush, rest in ((one, other), (other, one)) for n, level in planes(brush))
+
+
+def disjoint(brushes):
+    """The brushes, and of each that overlaps earlier ones what lies outside them."""
+    done = []
+    for brush in brushes:
+        pieces = [brush]
+        for earlier in list(done):
+            pieces = [rest for piece in pieces for rest in ([piece] if are_apart(piece, earlier) else outside(piece, earlier))]
+        done += pieces
+    return done
+
+
 def lies_behind(one, other, view):
     """Whether some face of a brush parts the two so that `one` is to be drawn before `other`."""
     for near_side, brush, rest in ((True, one, other), (False, other, one)):
@@ -120,35 +170,49 @@ def colour(material, light):
     return '#%02x%02x%02x' % tuple(round(255 * part) for part in (red, green, blue))
 
 
-def picture(brushes, view):
+def seen_faces(brushes, view):
+    """The faces that look at the eye, the farther ones first: of each its colour and its flat corners."""
     faces = []
     light = tuple(e + s for e, s in zip(view.eye, (0.0, 0.35, 0.6)))
     size = math.sqrt(dot(light, light))
-    for brush in farthest_first([brush for brush in brushes if brush], view):
+    for brush in farthest_first(disjoint([brush for brush in brushes if brush]), view):
         for material, points in brush:
             n = normal(points)
             if dot(n, view.eye) > NEAR:
                 shade = max(0.0, dot(n, light) / size)
                 faces.append((colour(material, shade), [view.flat(p) for p in points]))
-    flat = [p for _, points in faces for p in points] or [(0.0, 0.0)]
-    left, top = (min(c) for c in zip(*flat))
-    right, bottom = (max(c) for c in zip(*flat))
-    scale = (WIDTH - 2 * MARGIN) / max(right - left, bottom - top, 1.0)
+    return faces
+
+
+def picture(maps, view):
+    panels = [seen_faces(brushes, view) for brushes in maps]
+    flat = [[p for _, points in faces for p in points] or [(0.0, 0.0)] for faces in panels]
+    lefts, tops, rights, bottoms = zip(*([min(c) for c in zip(*points)] + [max(c) for c in zip(*points)] for points in flat))
+    top, bottom = min(tops), max(bottoms)
+    wide = sum(rights) - sum(lefts)
+    room = WIDTH - 2 * MARGIN - GAP * (len(panels) - 1)
+    scale = min(room / max(wide, 1.0), room / len(panels) / max(bottom - top, 1.0))
     height = round((bottom - top) * scale) + 2 * MARGIN
     lines = ['<svg xmlns="http://www.w3.org/2000/svg" viewBox="0 0 %d %d" stroke="#222" stroke-width="0.8" '
-             'stroke-linejoin="round">' % (WIDTH, height), '<rect width="100%" height="100%" fill="#fff" stroke="none"/>']
-    for fill, points in faces:
-        places = ' '.join('%.1f,%.1f' % (MARGIN + (x - left) * scale, MARGIN + (y - top) * scale) for x, y in points)
-        lines.append('<polygon fill="%s" points="%s"/>' % (fill, places))
+             'stroke-linejoin="round">' % (round(wide * scale) + 2 * MARGIN + GAP * (len(panels) - 1), height),
+             '<rect width="100%" height="100%" fill="#fff" stroke="none"/>']
+    begin = MARGIN
+    for faces, left, right in zip(panels, lefts, rights):
+        for fill, points in faces:
+            places = ' '.join('%.1f,%.1f' % (begin + (x - left) * scale, MARGIN + (y - top) * scale) for x, y in points)
+            lines.append('<polygon fill="%s" points="%s"/>' % (fill, places))
+        begin += (right - left) * scale + GAP
     return '\n'.join(lines + ['</svg>', ''])
 
 
 def main(words):
-    if len(words) not in (2, 4):
+    texts = [word for word in words if word.endswith('.obj')]
+    rest = words[len(texts):]
+    if not texts or words[:len(texts)] != texts or len(rest) not in (1, 3):
         sys.exit(__doc__)
-    azimuth, elevation = (float(word) for word in words[2:]) if len(words) == 4 else (235.0, 30.0)
-    text = picture(read_brushes(words[0]), View(azimuth, elevation))
-    with open(words[1], 'w', encoding='utf-8') as out:
+    azimuth, elevation = (float(word) for word in rest[1:]) if len(rest) == 3 else (235.0, 30.0)
+    text = picture([read_brushes(path) for path in texts], View(azimuth, elevation))
+    with open(rest[0], 'w', encoding='utf-8') as out:
         out.write(text)
 
 
