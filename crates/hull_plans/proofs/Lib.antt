@@ -1,0 +1,7 @@
+pub mod Places
+pub mod Listing
+pub mod Facets
+pub mod Distinct
+mod HullRows
+mod HullOutcomes
+mod WhichCommand

@@ -1,0 +1,4 @@
+-- Definitions.
+pub mod HullCommands
+pub mod Hulls
+pub mod Hulled
