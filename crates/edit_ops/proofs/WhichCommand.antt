@@ -1,12 +1,13 @@
 -- Which commands are of this crate.
 use Rattle.std.proofs.Common.{◌≡◌, List, true, refl, sym, true≢false, ℤ, ℕ}
 use Rattle.exact_geom.specs.declared.axis.Axis.{Axis}
-use Rattle.map_model.specs.Commands.{Command, Part, SurfaceWords, Box, Copy, Move, Turn, Flip, Clip, Subtract, Hollow, Tex}
+use Rattle.map_model.specs.Commands.{Command, Part, SurfaceWords, Box, Hull, Copy, Move, Turn, Flip, Clip, Subtract, Hollow, Tex}
 use Rattle.edit_ops.specs.EditCommands.{is_edit_command}
 
 -- The command is none of these.
 pub record IsOther (c : Command) : Type 0 where
   pub box : (x y : List ℤ) → ¬ (c ≡ Box x y)
+  pub hull : (points : List (List ℤ)) → ¬ (c ≡ Hull points)
   pub copy : (shift : List ℤ) (ns : List ℕ) → ¬ (c ≡ Copy shift ns)
   pub move : (shift : List ℤ) (ns : List ℕ) → ¬ (c ≡ Move shift ns)
   pub turn : (axis : Axis) (quarters : ℕ) (about : List ℤ) (ns : List ℕ) → ¬ (c ≡ Turn axis quarters about ns)
@@ -18,6 +19,7 @@ pub record IsOther (c : Command) : Type 0 where
 
 pub none_other : (c : Command) → is_edit_command c ≡ true → IsOther c → ⊥
 none_other (Box x y) e other = other.box x y refl
+none_other (Hull points) e other = other.hull points refl
 none_other (Copy shift ns) e other = other.copy shift ns refl
 none_other (Move shift ns) e other = other.move shift ns refl
 none_other (Turn axis quarters about ns) e other = other.turn axis quarters about ns refl

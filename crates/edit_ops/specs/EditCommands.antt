@@ -1,9 +1,10 @@
 -- The commands of this crate: those that make, move, copy, cut, reshape and texture brushes.
 use Rattle.std.specs.Prelude.{Bool, true, false}
-use Rattle.map_model.specs.Commands.{Command, Box, Copy, Move, Turn, Flip, Clip, Subtract, Hollow, Tex}
+use Rattle.map_model.specs.Commands.{Command, Box, Hull, Copy, Move, Turn, Flip, Clip, Subtract, Hollow, Tex}
 
 abbrev pub is_edit_command : Command → Bool
 is_edit_command (Box x y) = true
+is_edit_command (Hull points) = true
 is_edit_command (Copy shift ns) = true
 is_edit_command (Move shift ns) = true
 is_edit_command (Turn axis quarters about ns) = true

@@ -26,6 +26,7 @@ pub fn is_edit_command(c: &Command) -> bool
     matches!(
         c,
         Command::Box { .. }
+            | Command::Hull { .. }
             | Command::Copy { .. }
             | Command::Move { .. }
             | Command::Turn { .. }
@@ -49,6 +50,7 @@ pub fn edit(alloc: Global, map: &Map, set: &Settings, c: &Command) -> Result<Pla
 {
     match c {
         Command::Box { a, b } => plan_box(alloc, map, set, *a, *b),
+        Command::Hull { .. } => hull_plans::edit(alloc, map, set, c),
         Command::Copy { .. } => plan_copy(alloc, map, set, c),
         Command::Move { .. } => plan_moving(alloc, map, set, c),
         Command::Turn { .. } => plan_moving(alloc, map, set, c),

@@ -4,6 +4,7 @@ use Rattle.edit_ops.proofs.editing.edit.Goals as goal
 pub unreachable-requires : goal.unreachable-requires
 unreachable-requires c = none_other c.args.c.now c.requires.own (record {
   box = c.in_default.not-Box;
+  hull = c.in_default.not-Hull;
   copy = c.in_default.not-Copy;
   move = c.in_default.not-Move;
   turn = c.in_default.not-Turn;
