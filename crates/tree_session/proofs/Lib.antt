@@ -1,4 +1,3 @@
-pub mod FaceLoops
 pub mod Lines
 pub mod Numbers
 pub mod BrushWords

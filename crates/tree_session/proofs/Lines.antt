@@ -17,7 +17,8 @@ use Rattle.map_model.specs.Loops.{loop}
 use Rattle.map_model.specs.Listings.{ok_line, words, line, pair_line, vertex_word, face_line}
 use Rattle.tree_session.specs.Lines.{pair_at}
 use Rattle.tree_session.specs.Brushes.{spaced, AddsLoop, AddsFace, AddsFaces, AddsBrush}
-use Rattle.tree_session.proofs.BrushWords.{take_next, count_is}
+use Rattle.loop_laws.proofs.Lists.{take_next, got, one_more_text}
+use Rattle.loop_laws.proofs.Places.{count_is}
 
 -- A line of words is the first of them, and then each with a blank before.
 pub words_spaced : (w : List ℕ) (ws : List (List ℕ)) → words (w ∷ ws) ≡ w ++ spaced ws
@@ -29,23 +30,7 @@ pub ends : {A E : Type 0} (r : Result A E) (mid text new goal : List ℕ) → On
 ends (Ok x) mid text new goal e f = e ∙ f
 ends (Err x) mid text new goal e f = tt
 
-pub record Got {A : Type 0} (xs : List A) (k : ℕ) : Type 0 where
-  pub item : A
-  pub is : slice_get xs k ≡ Some item
-
-pub got : {A : Type 0} (xs : List A) (k : ℕ) → k < length xs → Got xs k
-got [] k h = absurd (omega arith)
-got (x ∷ xs) zero h = record { item = x; is = refl }
-got (x ∷ xs) (suc k) h = let g = got xs k (omega arith) in record { item = g.item; is = g.is }
-
--- The step of a loop that adds a text for each item.
-pub one_more_text : {A : Type 0} (f : A → List ℕ) (xs : List A) (k : ℕ) (x : A) (first old new : List ℕ) → slice_get xs k ≡ Some x →
-    old ≡ first ++ flat_map f (take k xs) → new ≡ old ++ f x → new ≡ first ++ flat_map f (take (k + 1) xs)
-one_more_text f xs k x first old new e o n =
-    n ∙ ap (λ l. l ++ f x) o ∙ append_assoc first (flat_map f (take k xs)) (f x)
-    ∙ ap (λ l. first ++ l) (ap (λ l. flat_map f (take k xs) ++ l) (sym (append-nil (f x))) ∙ sym (flat_map-append f (take k xs) (x ∷ []))
-    ∙ ap (flat_map f) (sym (take_next xs k x e)))
-
+-- The step of a loop that adds a pair.
 pub one_pair_more : (protected : List (List ℕ)) (ps : List (List ℕ × List ℕ)) (k : ℕ) (first old new : List ℕ) → k < length ps →
     old ≡ first ++ flat_map (pair_line protected) (take k ps) → new ≡ old ++ pair_at protected (slice_get ps k) → new ≡ first ++ flat_map (pair_line protected) (take (k + 1) ps)
 one_pair_more protected ps k first old new h o n =

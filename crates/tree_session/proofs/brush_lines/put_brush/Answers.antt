@@ -3,7 +3,7 @@ use Rattle.std.specs.Fmt.{decimal}
 use Rattle.solid_laws.specs.FaceLoop.{HasVertexCount}
 use Rattle.solid_brush.specs.Sides.{half_spaces as of_sides}
 use Rattle.tree_session.proofs.Lines.{adds_brush, brush_first}
-use Rattle.tree_session.proofs.BrushWords.{same_spaces, valid_faces}
+use Rattle.loop_laws.proofs.Faces.{same_spaces, valid_faces}
 use Rattle.tree_session.proofs.brush_lines.put_brush.Goals as goal
 
 pub returns : goal.returns

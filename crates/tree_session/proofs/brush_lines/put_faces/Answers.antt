@@ -5,8 +5,8 @@ use Rattle.std.proofs.lemmas.List.FromFn.{length-enumerate_from}
 use Rattle.solid_laws.specs.Names.{AreVertices}
 use Rattle.solid_brush.specs.Sides.{half_spaces as of_sides}
 use Rattle.map_model.specs.Listings.{face_line}
-use Rattle.tree_session.proofs.Lines.{one_more_text}
-use Rattle.tree_session.proofs.BrushWords.{few_faces, same_spaces, face_at, numbered_at}
+use Rattle.loop_laws.proofs.Lists.{one_more_text}
+use Rattle.loop_laws.proofs.Faces.{few_faces, same_spaces, face_at, numbered_at}
 use Rattle.tree_session.proofs.brush_lines.put_faces.Goals as goal
 
 pub overflow_cast-k : goal.overflow_cast-k

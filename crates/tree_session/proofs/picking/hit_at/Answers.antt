@@ -3,7 +3,7 @@ use Rattle.exact_geom.specs.Planes.{vector}
 use Rattle.solid_brush.specs.Sides.{half_spaces as of_sides}
 use Rattle.ray_pick.specs.Hits.{IsHit}
 use Rattle.map_model.specs.Tree.{whole}
-use Rattle.tree_session.proofs.BrushWords.{same_spaces}
+use Rattle.loop_laws.proofs.Faces.{same_spaces}
 use Rattle.tree_session.proofs.Picks.{met_brush}
 use Rattle.tree_session.proofs.picking.hit_at.Goals as goal
 

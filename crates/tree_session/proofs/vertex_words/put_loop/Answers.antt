@@ -3,7 +3,9 @@ use Rattle.solid_brush.specs.Sides.{half_spaces}
 use Rattle.map_model.specs.Loops.{loop}
 use Rattle.map_model.specs.Listings.{vertex_word}
 use Rattle.tree_session.specs.Brushes.{spaced}
-use Rattle.tree_session.proofs.BrushWords.{count_is, number_is, loop_short, take_past, one_vertex_more}
+use Rattle.loop_laws.proofs.Lists.{take_past}
+use Rattle.loop_laws.proofs.Places.{count_is, number_is, loop_short}
+use Rattle.tree_session.proofs.BrushWords.{one_vertex_more}
 use Rattle.tree_session.proofs.vertex_words.put_loop.Goals as goal
 
 pub returns-in-None : goal.returns-in-None
