@@ -1,0 +1,3 @@
+-- Definitions.
+pub mod Places
+pub mod Laws

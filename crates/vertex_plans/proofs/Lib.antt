@@ -1,0 +1,9 @@
+pub mod Best
+pub mod Changed
+pub mod Destinations
+pub mod Picked
+pub mod MoveRows
+pub mod FacesSoFar
+pub mod Bodies
+pub mod VertexOutcomes
+pub mod WhichCommand

@@ -1,0 +1,5 @@
+-- Definitions.
+pub mod Remade
+pub mod Moves
+pub mod Putting
+pub mod VertexCommands

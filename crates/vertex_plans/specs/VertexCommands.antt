@@ -1,0 +1,7 @@
+-- The commands of this crate.
+use Rattle.std.specs.Prelude.{Bool, true, false}
+use Rattle.map_model.specs.Commands.{Command, Vertex}
+
+abbrev pub is_vertex_command : Command → Bool
+is_vertex_command (Vertex n shift picks) = true
+is_vertex_command c = false
