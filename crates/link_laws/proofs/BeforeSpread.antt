@@ -1,5 +1,5 @@
 -- The map from which edited groups are spread has its shape, command by command.
-use Rattle.std.proofs.Common.{Option, ◌≡◌, ℕ, ◌≤◌, List, [], flat_map, true, ◌&&◌, inl, inr, refl, ap, sym, ◌∙◌, subst, arith, Some, None, option_map, filter}
+use Rattle.std.proofs.Common.{Option, ◌≡◌, ◌≢◌, ℕ, ◌≤◌, List, [], flat_map, true, ◌&&◌, inl, inr, refl, ap, sym, ◌∙◌, subst, arith, Some, None, option_map, filter}
 use Rattle.std.specs.Prelude.{option_to_list, is_none, is_some}
 use Rattle.std.proofs.lemmas.Bool.{cases_lt, and_parts, and_from}
 use Rattle.algebra.specs.Members.{◌∈◌}
@@ -34,7 +34,7 @@ use Rattle.link_laws.proofs.Pairs.{Once, once_by}
 use Rattle.link_laws.proofs.SpreadOne.{set_linked}
 use Rattle.link_laws.proofs.SpreadEach.{ToSpread}
 use Rattle.link_laws.proofs.Others.{still_one}
-use Rattle.map_model.specs.Links.{AllOne}
+use Rattle.map_model.specs.Links.{One, AllOne}
 use Rattle.link_laws.proofs.Nested.{linked_before, apart_by}
 
 -- A linked group has a set.
@@ -140,16 +140,31 @@ module _ (m : Whole) (c : Command) (k : Whole) (shape : Shape m) (rooted : (n : 
   named_over g i = among_member g (flat_map (edits m c) (named c)) (and_parts (is_linked (prune m c k) g) (among g (flat_map (edits m c) (named c)))
       (filter_member (λ g. is_linked (prune m c k) g && among g (flat_map (edits m c) (named c))) g (all_numbers m) (subst (λ l. g ∈ l) is i)).1).1
 
-  -- The edited groups can be spread.
-  pub to_spread : AllOne m → ((g h t : ℕ) → g ∈ flat_map (edits m c) (named c) → h ∈ flat_map (edits m c) (named c) → set_at m g ≡ Some t → set_at m h ≡ Some t → g ≡ h) →
+  -- A linked group that isn't edited stands over no named node.
+  out_of : (h : ℕ) → is_linked (before_spread m c k) h ≡ true → (h ∈ edited m c (prune m c k) → ⊥) → h ∈ flat_map (edits m c) (named c) → ⊥
+  out_of h l out i =
+      let lp : is_linked (prune m c k) h ≡ true = linked_is (prune m c k) h ∙ ap is_some (sym (all_links h)) ∙ sym (linked_is (before_spread m c k) h) ∙ l in
+      out (subst (λ x. h ∈ x) (sym is) (member_filter (λ g. is_linked (prune m c k) g && among g (flat_map (edits m c) (named c))) h (all_numbers m) (number h (linked_before m (prune m c k) r.pruned.comes h lp))
+      (and_from (is_linked (prune m c k) h) (among h (flat_map (edits m c) (named c))) lp (member_among h (flat_map (edits m c) (named c)) i))))
+
+  -- The edited groups can be spread, where each two members of a set that aren't edited are one content.
+  pub to_spread_from : ((s h j : ℕ) → set_at m h ≡ Some s → set_at m j ≡ Some s → h ≢ j → (h ∈ flat_map (edits m c) (named c) → ⊥) → (j ∈ flat_map (edits m c) (named c) → ⊥) → One m h j) →
+      ((g h t : ℕ) → g ∈ flat_map (edits m c) (named c) → h ∈ flat_map (edits m c) (named c) → set_at m g ≡ Some t → set_at m h ≡ Some t → g ≡ h) →
       empty_link m c (prune m c k) ≡ None → (before_spread m c k).next ≤ 65536 → ToSpread (before_spread m c k) (edited m c (prune m c k))
-  to_spread all one_edited empty most = record {
+  to_spread_from all one_edited empty most = record {
     shape = marked_shape empty most;
     linked = linked_all;
     distinct = subst Once (sym is) (once_by gs once_gs);
     apart = λ g h i j e. let w = linked_set (before_spread m c k) g (linked_all g i) in
         one_edited g h w.0 (named_over g i) (named_over h j) (set_before g w.0 w.1) (set_before h w.0 (sym e ∙ w.1));
-    one = λ s h j e f ne oh oj. still_one m (before_spread m c k) h j (unchanged h (set_linked (before_spread m c k) h s e) oh) (unchanged j (set_linked (before_spread m c k) j s f) oj)
-        (group_linked (before_spread m c k) h (set_linked (before_spread m c k) h s e)) (group_linked (before_spread m c k) j (set_linked (before_spread m c k) j s f))
-        (all s h j (set_before h s e) (set_before j s f) ne);
+    one = λ s h j e f ne oh oj.
+        let lh = set_linked (before_spread m c k) h s e in let lj = set_linked (before_spread m c k) j s f in
+        still_one m (before_spread m c k) h j (unchanged h lh oh) (unchanged j lj oj)
+        (group_linked (before_spread m c k) h lh) (group_linked (before_spread m c k) j lj)
+        (all s h j (set_before h s e) (set_before j s f) ne (out_of h lh oh) (out_of j lj oj));
   }
+
+  -- So they can where all members are.
+  pub to_spread : AllOne m → ((g h t : ℕ) → g ∈ flat_map (edits m c) (named c) → h ∈ flat_map (edits m c) (named c) → set_at m g ≡ Some t → set_at m h ≡ Some t → g ≡ h) →
+      empty_link m c (prune m c k) ≡ None → (before_spread m c k).next ≤ 65536 → ToSpread (before_spread m c k) (edited m c (prune m c k))
+  to_spread all = to_spread_from (λ s h j e f ne oh oj. all s h j e f ne)

@@ -32,12 +32,12 @@ use Rattle.map_model.specs.Links.{AllOne}
 use Rattle.link_laws.proofs.Putting.{from_content}
 use Rattle.link_laws.proofs.BeforeSpread.{numbers_once, linked_set}
 
--- A command that changes one node where no other sees it: no mark is drawn.
-turn_same : {A : Type 0} (e f : A → Whole → Whole) → ((x : A) (k : Whole) → e x k ≡ f x k) → (xs : List A) (k : Whole) → each_in_turn e xs k ≡ each_in_turn f xs k
+pub turn_same : {A : Type 0} (e f : A → Whole → Whole) → ((x : A) (k : Whole) → e x k ≡ f x k) → (xs : List A) (k : Whole) → each_in_turn e xs k ≡ each_in_turn f xs k
 turn_same e f h [] k = refl
 turn_same e f h (x ∷ xs) k = ap (each_in_turn e xs) (h x k) ∙ turn_same e f h xs (f x k)
 
-marked_before : (m k : Whole) → ((n : ℕ) → over m n ≡ over k n) → (gs : List ℕ) (l : Whole) → marked m gs l ≡ marked k gs l
+-- Marks are drawn by what stands over nodes before.
+pub marked_before : (m k : Whole) → ((n : ℕ) → over m n ≡ over k n) → (gs : List ℕ) (l : Whole) → marked m gs l ≡ marked k gs l
 marked_before m k h gs l = turn_same (mark_content m) (mark_content k) (λ g w. turn_same (mark_new m g) (mark_new k g) (λ n w.
     ap (λ o. cond (is_one_number o (Some g)) w (renew n (with_mark (Some w.next)) (draw_number w))) (h n)) (content w g) w) gs (each_in_turn unmark (all_numbers l) l)
 

@@ -4,8 +4,10 @@ use Rattle.map_model.specs.Tree.{Whole}
 use Rattle.map_model.specs.Below.{Below, IsRight}
 use Rattle.map_model.specs.Shape.{Shape}
 use Rattle.map_model.specs.Links.{AllOne}
-use Rattle.map_model.specs.Commands.{Command, IsGood, Settings, Material, Protect, Unlink, Copy}
+use Rattle.map_model.specs.Commands.{Command, IsGood, Settings, Material, Protect, Unlink, Copy, Box}
 use Rattle.map_laws.specs.TreeCommands.{is_tree_command}
+use Rattle.map_laws.specs.BoxCommand.{KeepsMaterial}
+use Rattle.map_laws.specs.Reshaping.{is_reshaping_command, HasPairs}
 use Rattle.map_model.specs.Apply.{Applied, apply}
 
 -- A map of which each two members of each set are one content is one again after the command: it has the shape of maps, and each two members
@@ -32,3 +34,16 @@ UnlinkKeepsLaw = (g : ℕ) → KeepsAllOne (Unlink g)
 -- The command that copies nodes keeps it.
 abbrev pub CopyKeepsLaw : Type 0
 CopyKeepsLaw = (shift : List ℤ) (ns : List ℕ) → KeepsAllOne (Copy shift ns)
+
+-- The same of commands that make faces in the current material, where that can be saved.
+abbrev pub KeepsWithMaterial : Command → Type 0
+KeepsWithMaterial c =
+    (b : Below) (s : Settings) (m : Whole) (a : Applied) → IsRight b → KeepsMaterial s → IsGood c → Shape m → AllOne m → apply b s m c ≡ Ok a → Shape a.map × AllOne a.map
+
+-- The commands that make brushes of brushes or of points, or change faces, keep it.
+abbrev pub ReshapingKeepsLaw : Type 0
+ReshapingKeepsLaw = (c : Command) → IsTrue (is_reshaping_command c) → HasPairs c → KeepsWithMaterial c
+
+-- The command that makes a box keeps it.
+abbrev pub BoxKeepsLaw : Type 0
+BoxKeepsLaw = (x y : List ℤ) → KeepsWithMaterial (Box x y)
