@@ -12,5 +12,6 @@ unreachable-requires c = none_other c.args.c.now c.requires.own (record {
   clip = c.in_default.not-Clip;
   subtract = c.in_default.not-Subtract;
   hollow = c.in_default.not-Hollow;
+  vertex = c.in_default.not-Vertex;
   tex = c.in_default.not-Tex;
 })
