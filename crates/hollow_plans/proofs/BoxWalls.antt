@@ -1,7 +1,7 @@
 -- The solids that a box is cut into, as its walls.
-use Rattle.std.proofs.Common.{◌≡◌, ℕ, ◌+◌, ◌^◌, ◌<◌, ◌≤◌, List, [], ◌∷◌, ◌++◌, length, map, IsTrue, Bool, true, None, Some, Result, Ok, Err, refl, ap, sym, subst, ◌∙◌, arith, pos, ℤ, ◌+ℤ◌, ◌<ℤ◌}
+use Rattle.std.proofs.Common.{◌≡◌, ℕ, ◌^◌, ◌<◌, ◌≤◌, List, [], ◌∷◌, length, map, IsTrue, true, Ok, ap, sym, subst, ◌∙◌, arith, pos, ℤ, ◌+ℤ◌, ◌<ℤ◌}
 use Rattle.algebra.specs.Members.{◌∈◌, here, there, Every}
-use Rattle.algebra.specs.Space.{HalfSpace, dot}
+use Rattle.algebra.specs.Space.{dot}
 use Rattle.exact_geom.specs.Planes.{half_space}
 use Rattle.piece_laws.specs.Pieces as solid_pieces
 use Rattle.solid_brush.specs.declared.side.Side.{Side}
@@ -28,7 +28,7 @@ use Rattle.cut_plans.proofs.OneSide.{few_faces}
 use Rattle.hollow_plans.specs.Walls.{walls_of, AreWalls}
 use Rattle.hollow_plans.proofs.InnerBoxes.{plane_moved, inner_told, inner_told_tags, old_told_tags}
 use Rattle.hollow_plans.proofs.Pieces.{pieces_are, pieces_told, lists_bounded}
-use Rattle.hollow_plans.proofs.ShortSides.{thin_row, thick_row}
+use Rattle.hollow_plans.proofs.ShortSides.{thin_row}
 
 pub small_tags : (fs : List Face) → IsSolid (sides_of fs) → Every (λ s. s.tag < 2 ^ 30) (sides_of fs)
 small_tags fs is s i = let r = (tag_within 0 fs s i).1 in let few = few_faces fs is in omega arith

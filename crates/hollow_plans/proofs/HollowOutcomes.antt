@@ -1,5 +1,5 @@
 -- What comes of `hollow`.
-use Rattle.std.proofs.Common.{◌≡◌, ℕ, ◌+◌, ◌*◌, ◌<◌, ◌≤◌, List, [], ◌∷◌, length, map, None, Err, true, refl, ap, sym, subst, ◌∙◌, arith, ℤ}
+use Rattle.std.proofs.Common.{◌≡◌, ℕ, ◌+◌, ◌*◌, ◌<◌, ◌≤◌, List, [], ◌∷◌, length, map, Err, true, refl, ap, sym, ◌∙◌, arith, ℤ}
 use Rattle.std.proofs.lemmas.List.{length-map}
 use Rattle.algebra.specs.Members.{◌∈◌, here, there}
 use Rattle.map_model.specs.Tree.{Whole, faces_at}

@@ -1,12 +1,12 @@
 -- The rows of `hollow`, and what is known where they pass.
-use Rattle.std.proofs.Common.{◌≡◌, ℕ, List, [], ◌∷◌, ◌++◌, true, not, Option, None, Some, Result, Ok, Err, ap, sym, subst, ◌∙◌, ℤ}
+use Rattle.std.proofs.Common.{◌≡◌, ℕ, List, [], ◌∷◌, true, not, Option, Result, Ok, Err, ap, sym, subst, ◌∙◌, ℤ}
 use Rattle.std.specs.Prelude.{IsErrAnd}
 use Rattle.algebra.specs.Members.{◌∈◌}
 use Rattle.map_model.specs.Tree.{Whole, faces_at}
-use Rattle.map_model.specs.Below.{Below, IsRight}
+use Rattle.map_model.specs.Below.{Below}
 use Rattle.map_model.specs.Brushes.{is_box}
 use Rattle.map_model.specs.Replies.{Refusal, NotBox}
-use Rattle.map_model.specs.Rows.{first, refuse, at_each}
+use Rattle.map_model.specs.Rows.{first, at_each}
 use Rattle.map_laws.proofs.Refused.{refuse_none, each_none}
 use Rattle.tree_ops.specs.Passing.{passes}
 use Rattle.tree_ops.specs.declared.fault.OpFault.{OpFault}

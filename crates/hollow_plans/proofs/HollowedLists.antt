@@ -1,11 +1,10 @@
 -- Boxes that get walls one after another.
-use Rattle.std.proofs.Common.{◌≡◌, ℕ, ◌+◌, ◌<◌, ◌≤◌, List, [], ◌∷◌, ◌++◌, length, map, take, get_or, Option, None, Some, Result, Ok, Err, refl, ap, sym, subst, ◌∙◌, ℤ}
+use Rattle.std.proofs.Common.{◌≡◌, ℕ, ◌+◌, ◌<◌, ◌≤◌, List, [], ◌∷◌, ◌++◌, length, map, take, get_or, Option, Result, Ok, Err, refl, sym, subst, ◌∙◌, ℤ}
 use Rattle.std.specs.Prelude.{IsErrAnd}
 use Rattle.map_model.specs.Faces.{Face}
 use Rattle.map_model.specs.Tree.{Whole, faces_at}
 use Rattle.map_model.specs.Below.{Below, IsRight}
 use Rattle.map_model.specs.Replies.{Refusal}
-use Rattle.map_model.specs.Rows.{at_each}
 use Rattle.tree_ops.specs.declared.fault.OpFault.{OpFault}
 use Rattle.tree_ops.specs.declared.fault.OpFault.TheVariants.{No, Memory}
 use Rattle.tree_ops.proofs.Outcomes.{err_is}

@@ -1,19 +1,19 @@
 -- The inner box of a brush, as faces and as sides.
-use Rattle.std.proofs.Common.{◌≡◌, ℕ, zero, suc, ◌+◌, ◌-◌, ◌^◌, ◌<◌, ◌≤◌, List, [], ◌∷◌, ◌++◌, length, map, get_or, refl, ap, sym, subst, ◌∙◌, arith, append_assoc, ℤ, pos, negsuc, neg_ℤ, ◌+ℤ◌, ◌-ℤ◌, ◌*ℤ◌, ◌<ℤ◌, ◌≤ℤ◌, ◌⊎◌, inl, inr}
+use Rattle.std.proofs.Common.{◌≡◌, ℕ, zero, suc, ◌+◌, ◌-◌, ◌^◌, ◌≤◌, List, [], ◌∷◌, ◌++◌, length, map, get_or, refl, ap, sym, ◌∙◌, arith, append_assoc, ℤ, pos, negsuc, neg_ℤ, ◌+ℤ◌, ◌-ℤ◌, ◌*ℤ◌, ◌<ℤ◌, ◌≤ℤ◌, inl, inr}
 use Rattle.std.proofs.lemmas.Int.{ints}
 use Rattle.std.proofs.lemmas.Bool.Decides.{nat_tests}
 use Rattle.std.specs.Prelude.{cond, nat_lt, int_lt, Bool, true, false}
-use Rattle.algebra.specs.Members.{◌∈◌, here, there, Every}
+use Rattle.algebra.specs.Members.{here, there, Every}
 use Rattle.algebra.specs.Space.{Vector}
 use Rattle.exact_geom.specs.declared.point.Point.{Point}
-use Rattle.exact_geom.specs.Planes.{ThreePoints, half_space}
+use Rattle.exact_geom.specs.Planes.{half_space}
 use Rattle.solid_brush.specs.declared.side.Side.{Side}
 use Rattle.map_nodes.specs.Seen.{sides_from, sides_of}
 use Rattle.map_model.specs.Faces.{Face}
 use Rattle.map_model.specs.Brushes.{inward, sign_of, moved_by}
 use Rattle.map_model.proofs.Members.{decides_less}
 use Rattle.csg_ops.specs.Hollows as solid
-use Rattle.cut_plans.specs.Told.{bare, told, face_of, faces_of, IsTold}
+use Rattle.cut_plans.specs.Told.{bare, face_of, faces_of, IsTold}
 use Rattle.cut_plans.proofs.Faces.{tag_within}
 
 -- A coordinate. ---------------------------------------------------------------------------------------------------------------------

@@ -3,8 +3,8 @@ use Rattle.std.proofs.Common.{◌≡◌, ℕ, suc, ◌+◌, ◌<◌, ◌≤◌, 
 use Rattle.std.specs.Prelude.{option_map, unwrap_or}
 use Rattle.std.proofs.lemmas.List.{drop_all, length-map}
 use Rattle.map_model.specs.Faces.{Face}
-use Rattle.map_model.specs.Tree.{Whole, Node, Brush, up, is_brush, numbers_from}
-use Rattle.map_model.specs.Edits.{each_in_turn, draw, put_at, renew, relist, in_place, forget, replace_by}
+use Rattle.map_model.specs.Tree.{Whole, Brush, up, is_brush, numbers_from}
+use Rattle.map_model.specs.Edits.{each_in_turn, draw, put_at, renew, relist, in_place, replace_by}
 use Rattle.map_laws.proofs.Replacing.{next-drawn}
 use Rattle.map_laws.proofs.Slots.{next-forget}
 use Rattle.hollow_plans.specs.declared.walls.Hollowed.{Hollowed}

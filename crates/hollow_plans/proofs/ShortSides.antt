@@ -1,8 +1,7 @@
 -- The vertices of a box tell whether its walls would be too thick.
-use Rattle.std.proofs.Common.{◌≡◌, ◌⊎◌, inl, inr, ⊎_elim, List, Bool, true, false, ◌||◌, None, Some, refl, ap, sym, subst, ℤ, ◌+ℤ◌, ◌-ℤ◌, ◌≤ℤ◌, ℕ}
+use Rattle.std.proofs.Common.{◌≡◌, ◌⊎◌, inl, inr, ⊎_elim, List, Bool, true, false, ◌||◌, None, Some, refl, ap, sym, subst, ℤ, ◌+ℤ◌, ◌-ℤ◌, ℕ}
 use Rattle.std.specs.Prelude.{int_le}
 use Rattle.std.specs.List.{list_all}
-use Rattle.algebra.specs.Members.{◌∈◌}
 use Rattle.algebra.specs.Space.{Vector, Homogeneous}
 use Rattle.solid_laws.specs.Names.{AreVertices}
 use Rattle.solid_brush.specs.Sides.{IsSolid}

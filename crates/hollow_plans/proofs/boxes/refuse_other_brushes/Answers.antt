@@ -1,5 +1,5 @@
 use Rattle.std.specs.Prelude.{not}
-use Rattle.std.proofs.Common.{ap, ◌∙◌, Err, refl}
+use Rattle.std.proofs.Common.{ap, ◌∙◌, Err}
 use Rattle.map_model.specs.Tree.{whole, faces_at}
 use Rattle.map_model.specs.Brushes.{is_box}
 use Rattle.map_model.specs.Replies.{NotBox}

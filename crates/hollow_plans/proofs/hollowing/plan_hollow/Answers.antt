@@ -1,4 +1,4 @@
-use Rattle.std.proofs.Common.{◌<◌, Err, w32, sym, subst, ap, ◌∙◌}
+use Rattle.std.proofs.Common.{Err, w32, sym, subst, ◌∙◌}
 use Rattle.std.proofs.lemmas.Int.{to_z-of_z}
 use Rattle.map_model.specs.Tree.{whole}
 use Rattle.map_model.specs.Edits.{each_in_turn}
@@ -34,7 +34,7 @@ put_all-requires c =
     let m = whole c.args.map.now in
     let these = c.deref.ensures.value ∙ c.in_ok-ids.ensures in
     let have = subst (λ ns. HaveWalls m c.args.thickness ns c.in_ok-hollowed.hollowed) these
-        (subst (λ t. HaveWalls m t c.deref.result.now c.in_ok-hollowed.hollowed) (to_z-of_z w32 c.args.thickness c.ranges.thickness) c.in_ok-hollowed.ensures) in
+    (subst (λ t. HaveWalls m t c.deref.result.now c.in_ok-hollowed.hollowed) (to_z-of_z w32 c.args.thickness c.ranges.thickness) c.in_ok-hollowed.ensures) in
     record { few = few s m c.args.thickness c.args.nodes.now (material_kept s c.has_material.ensures) c.requires.good c.is_map.ensures c.in_ok-hollowed.hollowed have }
 
 pub returns-in_err-planned-clause-refused : goal.returns-in_err-planned-clause-refused
@@ -45,7 +45,7 @@ returns-in_err-planned-clause-refused c =
     let these = c.deref.ensures.value ∙ c.in_ok-ids.ensures in
     let again = c.deref-2.ensures.value ∙ c.in_ok-ids.ensures in
     let have = subst (λ ns. HaveWalls m c.args.thickness ns list) these
-        (subst (λ t. HaveWalls m t c.deref.result.now c.in_ok-hollowed.hollowed) (to_z-of_z w32 c.args.thickness c.ranges.thickness) c.in_ok-hollowed.ensures) in
+    (subst (λ t. HaveWalls m t c.deref.result.now c.in_ok-hollowed.hollowed) (to_z-of_z w32 c.args.thickness c.ranges.thickness) c.in_ok-hollowed.ensures) in
     fault_is c.from_residual-in_err-planned.result (RefusesRightly s m (Hollow c.args.thickness c.args.nodes.now)) c.in_err-planned.field-0.0 c.from_residual-in_err-planned.ensures.1
     (refuses_late s m c.args.thickness c.args.nodes.now (material_kept s c.has_material.ensures) c.requires.good c.is_map.ensures list have c.in_err-planned.field-0.0
     (subst (λ ns. Ends m ns (each_in_turn put_walls list m) (wall_count list) (Made (wall_count list) m.next) (Err c.in_err-planned.field-0.0)) again c.in_err-planned.ensures))
@@ -58,7 +58,7 @@ returns-clause-planned c =
     let these = c.deref.ensures.value ∙ c.in_ok-ids.ensures in
     let again = c.deref-2.ensures.value ∙ c.in_ok-ids.ensures in
     let have = subst (λ ns. HaveWalls m c.args.thickness ns list) these
-        (subst (λ t. HaveWalls m t c.deref.result.now c.in_ok-hollowed.hollowed) (to_z-of_z w32 c.args.thickness c.ranges.thickness) c.in_ok-hollowed.ensures) in
+    (subst (λ t. HaveWalls m t c.deref.result.now c.in_ok-hollowed.hollowed) (to_z-of_z w32 c.args.thickness c.ranges.thickness) c.in_ok-hollowed.ensures) in
     plans s m c.args.thickness c.args.nodes.now (material_kept s c.has_material.ensures) c.requires.good c.is_map.ensures list have c.in_ok-planned.planned
     (subst (λ ns. Makes m ns (each_in_turn put_walls list m) (wall_count list) (Made (wall_count list) m.next) c.in_ok-planned.planned) again c.in_ok-planned.ensures)
 
@@ -70,6 +70,6 @@ returns-clause-sound c =
     let these = c.deref.ensures.value ∙ c.in_ok-ids.ensures in
     let again = c.deref-2.ensures.value ∙ c.in_ok-ids.ensures in
     let have = subst (λ ns. HaveWalls m c.args.thickness ns list) these
-        (subst (λ t. HaveWalls m t c.deref.result.now c.in_ok-hollowed.hollowed) (to_z-of_z w32 c.args.thickness c.ranges.thickness) c.in_ok-hollowed.ensures) in
+    (subst (λ t. HaveWalls m t c.deref.result.now c.in_ok-hollowed.hollowed) (to_z-of_z w32 c.args.thickness c.ranges.thickness) c.in_ok-hollowed.ensures) in
     is_map s m c.args.thickness c.args.nodes.now (material_kept s c.has_material.ensures) c.requires.good c.is_map.ensures list have c.in_ok-planned.planned
     (subst (λ ns. Makes m ns (each_in_turn put_walls list m) (wall_count list) (Made (wall_count list) m.next) c.in_ok-planned.planned) again c.in_ok-planned.ensures)

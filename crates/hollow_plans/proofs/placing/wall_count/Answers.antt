@@ -1,5 +1,4 @@
-use Rattle.std.proofs.Common.{arith, refl, sym, ap, ◌∙◌, length}
-use Rattle.hollow_plans.proofs.PuttingWalls.{counted_more, counted_fits, counted_all}
+use Rattle.hollow_plans.proofs.PuttingWalls.{counted_all}
 use Rattle.hollow_plans.proofs.placing.wall_count.Goals as goal
 
 pub returns : goal.returns

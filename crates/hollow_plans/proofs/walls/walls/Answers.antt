@@ -27,7 +27,7 @@ pub returns-in_ok-bodies-in-Ok : goal.returns-in_ok-bodies-in-Ok
 returns-in_ok-bodies-in-Ok c =
     have_walls (2 ^ 30) refl c.args.thickness c.args.body.now c.is_valid.ensures c.requires.proper c.in-Ok.solids.items
     (subst (λ l. ArePieces bounds reversed l (inner_box c.args.thickness l) c.in-Ok.solids.items) c.solid.ensures.sides
-      (subst (λ t. ArePieces bounds reversed c.solid.result.now (inner_box t c.solid.result.now) c.in-Ok.solids.items) (to_z-of_z w32 c.args.thickness c.ranges.thickness) c.in-Ok.ensures.pieces))
+    (subst (λ t. ArePieces bounds reversed c.solid.result.now (inner_box t c.solid.result.now) c.in-Ok.solids.items) (to_z-of_z w32 c.args.thickness c.ranges.thickness) c.in-Ok.ensures.pieces))
     c.args.id c.in_ok-bodies-in-Ok.field-0 c.requires.boxed
     (subst (λ l. ¬ (HasShortSide (c.args.thickness +ℤ c.args.thickness) (half_spaces l))) c.solid.ensures.sides
     (subst (λ t. ¬ (HasShortSide (t +ℤ t) (half_spaces c.solid.result.now))) (to_z-of_z w32 c.args.thickness c.ranges.thickness) c.in-Ok.ensures.long))
