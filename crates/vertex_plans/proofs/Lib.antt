@@ -7,3 +7,7 @@ pub mod FacesSoFar
 pub mod Bodies
 pub mod VertexOutcomes
 pub mod WhichCommand
+pub mod Nearests
+pub mod SnapRows
+pub mod SnapLists
+pub mod SnapOutcomes

@@ -1,5 +1,6 @@
 -- Definitions.
 pub mod Remade
 pub mod Moves
+pub mod Snaps
 pub mod Putting
 pub mod VertexCommands

@@ -9,6 +9,7 @@ ghost use Rattle.tree_node.specs.Held.{IsMap};
 ghost use Rattle.tree_ops.specs.Faults.{RefusesRightly};
 ghost use Rattle.vertex_plans.specs.VertexCommands.{is_vertex_command};
 
+use crate::snap::plan_snap;
 use crate::vertex::plan_vertex;
 use cmd_text::Command;
 use std::alloc::Global;
@@ -19,7 +20,7 @@ use tree_ops::{OpFault, Planned, Settings};
 pub fn is_vertex_command(c: &Command) -> bool
     ensures { result ≡ is_vertex_command c.now }
 {
-    matches!(c, Command::Vertex { .. })
+    matches!(c, Command::Vertex { .. } | Command::Snap { .. })
 }
 
 /// Plans a command of this crate: the first refusal of the one order, or a change that names exactly the nodes that differ,
@@ -36,6 +37,7 @@ pub fn edit(alloc: Global, map: &Map, set: &Settings, c: &Command) -> Result<Pla
         Command::Vertex { node, shift, picks } => {
             plan_vertex(alloc, map, set, *node, *shift, picks)
         }
+        Command::Snap { grid, nodes } => plan_snap(alloc, map, set, grid, nodes),
         _ => unreachable!(),
     }
 }

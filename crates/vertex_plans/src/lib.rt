@@ -1,4 +1,4 @@
-//! Commands that move the vertices of brushes, planned over a map: `vertex`.
+//! Commands that move the vertices of brushes, planned over a map: `vertex` and `snap`.
 //!
 //! [`edit`] gives the first refusal of the one order in which refusals are tried, or else a change that names exactly the
 //! nodes that differ, with the reply. It changes no map. A brush whose vertices move gets the facets of the hull of the
@@ -10,6 +10,9 @@ mod moving;
 mod on_facets;
 mod points;
 mod putting;
+mod snap;
+mod snapping;
+mod sorting;
 mod vertex;
 
 pub use editing::{edit, is_vertex_command};
