@@ -24,7 +24,7 @@ same_mark_is None (Some b) e = absurd (true≢false (sym e))
 same_mark_is (Some a) None e = absurd (true≢false (sym e))
 same_mark_is (Some a) (Some b) e = ap Some (eqb-true a b e)
 
-place_marks : (a b : Node) → same_place true a b ≡ true → mark_of a ≡ mark_of b
+pub place_marks : (a b : Node) → same_place true a b ≡ true → mark_of a ≡ mark_of b
 place_marks a b e =
     same_mark_is (mark_of a) (mark_of b) (and_parts (same_counts_of_children a b) _ (and_parts (same_kind (kind_of a) (kind_of b)) _ e).1).1
 

@@ -4,7 +4,7 @@ use Rattle.std.specs.Prelude.{unwrap_or, option_and_then}
 use Rattle.std.proofs.lemmas.Bool.{ne_eqb}
 use Rattle.algebra.specs.Members.{◌∈◌, here, there}
 use Rattle.map_model.specs.Faces.{Face}
-use Rattle.map_model.specs.Tree.{Whole, Node, World, Layer, Group, Entity, Brush, Kind, brush, at, up, among, children, preorder, preorder_by, kind_of, parent_of, brushes_of, others_of, is_brush, numbers_from, with_faces}
+use Rattle.map_model.specs.Tree.{Whole, Node, World, Layer, Group, Entity, Brush, Kind, world, layer, group, entity, brush, at, up, among, children, preorder, preorder_by, kind_of, parent_of, brushes_of, others_of, is_brush, numbers_from, with_faces}
 use Rattle.map_model.specs.Edits.{renew, relist, draw, each_in_turn, in_place, take_out, put_at, forget, delete, replace_by, put_after}
 use Rattle.map_laws.specs.Placed.{Bounded}
 use Rattle.map_laws.proofs.Skeleton.{kind_at}
@@ -65,19 +65,19 @@ childless : (o : Option Node) → ((j : Kind) → option_map kind_of o ≡ Some 
 childless None h = refl
 childless (Some (World a b c d)) h = absurd (no (h _ refl))
   where
-    no : Rattle.map_model.specs.Tree.world ≡ brush → ⊥
+    no : world ≡ brush → ⊥
     no e = cc
 childless (Some (Layer a b c d f)) h = absurd (no (h _ refl))
   where
-    no : Rattle.map_model.specs.Tree.layer ≡ brush → ⊥
+    no : layer ≡ brush → ⊥
     no e = cc
 childless (Some (Group a b c d f g i)) h = absurd (no (h _ refl))
   where
-    no : Rattle.map_model.specs.Tree.group ≡ brush → ⊥
+    no : group ≡ brush → ⊥
     no e = cc
 childless (Some (Entity a b c d f)) h = absurd (no (h _ refl))
   where
-    no : Rattle.map_model.specs.Tree.entity ≡ brush → ⊥
+    no : entity ≡ brush → ⊥
     no e = cc
 childless (Some (Brush a b c)) h = refl
 

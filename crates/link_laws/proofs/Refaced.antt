@@ -9,7 +9,7 @@ use Rattle.map_model.specs.Tree.{Whole, Node, World, Layer, Group, Entity, Brush
 use Rattle.map_model.specs.Shape.{Shape, NodeOk, LinkOk, EachNode}
 use Rattle.map_laws.specs.Placed.{Placed}
 use Rattle.map_laws.proofs.Forest.{not_none}
-use Rattle.map_laws.proofs.Skeleton.{kind_at, kind_is}
+use Rattle.map_laws.proofs.Skeleton.{placed_of, kind_is}
 use Rattle.map_laws.proofs.Slots.{slot_list}
 use Rattle.map_laws.proofs.Kept.{Comes, bare, bare_slot, KeptAt, ok_alike}
 use Rattle.map_laws.proofs.Renewing.{Alike, alike_standing, alike_numbers, alike_marks}
@@ -66,10 +66,7 @@ stem_format x = elim x as (λ x. format_of_node (stem x) ≡ format_of_node x) [
 -- The map k came from m by brushes that were remade, and is right without its links and marks.
 module _ (m k : Whole) (shape : Shape m) (s : KeepsStems m k) (e : Shape (erase k)) where
   pub placed : Placed k
-  placed = placed_by_erased k (Rattle.map_laws.proofs.Skeleton.placed_of e.standing)
-
-  abbrev B : Whole
-  B = refaced k m
+  placed = placed_by_erased k (placed_of e.standing)
 
   low : (q : ℕ) (x : Node) → at m q ≡ Some x → q < m.next
   low q x is = elim (cases_lt q m.next) [ inl lt ↦ lt | inr far ↦ absurd (not_none is (shape.numbers.nodes q far)) ]

@@ -3,7 +3,7 @@ use Rattle.std.proofs.Common.{◌≡◌, ◌≢◌, ℕ, ◌<◌, ◌≤◌, Lis
 use Rattle.std.specs.Prelude.{option_to_list, option_and_then}
 use Rattle.std.proofs.lemmas.Bool.{cases_lt}
 use Rattle.algebra.specs.Members.{◌∈◌}
-use Rattle.map_model.specs.Tree.{Whole, Kind, group, entity, brush, at, up, over, children, among, is_linked, is_kind, kind_of, parent_of, set_at, all_numbers, format_of}
+use Rattle.map_model.specs.Tree.{Whole, Kind, group, entity, brush, at, up, above, over, children, among, is_linked, is_kind, kind_of, parent_of, set_at, all_numbers, format_of}
 use Rattle.map_model.specs.Edits.{each_in_turn, take_out, forget}
 use Rattle.map_model.specs.Shape.{Shape}
 use Rattle.map_model.specs.Links.{One, AllOne}
@@ -22,6 +22,7 @@ use Rattle.map_laws.proofs.Holding.{kind_p}
 use Rattle.map_laws.proofs.Pruning.{emptied_by}
 use Rattle.map_laws.proofs.Pruned.{Pruned, chain_list, in_chain, rooted_at, rooted_child, above_live}
 use Rattle.map_laws.proofs.Refused.{each_none, refuse_none}
+use Rattle.map_laws.proofs.Kept.{Comes}
 use Rattle.map_laws.proofs.Renewing.{Alike, same_above, same_children, same_over, same_set, same_linked}
 use Rattle.link_laws.proofs.Contents.{SameContent, same_by, same_content}
 use Rattle.link_laws.proofs.Edited.{group_linked, in_option, not_over_by}
@@ -33,7 +34,7 @@ use Rattle.link_laws.proofs.SpreadOne.{set_linked}
 use Rattle.link_laws.proofs.SpreadEach.{ToSpread}
 use Rattle.link_laws.proofs.BeforeSpread.{Result, to_spread_from}
 use Rattle.link_laws.proofs.RenewedSpread.{turn_same, marked_before}
-use Rattle.link_laws.proofs.Erasing.{erase}
+use Rattle.link_laws.proofs.Erasing.{erase, erased_is, erased_children}
 use Rattle.link_laws.proofs.ErasedPruning.{prune_stems, prune_leaves, prune_erased}
 use Rattle.link_laws.proofs.Stems.{KeepsStems, stems_then, ups_kept, linked_kept}
 use Rattle.link_laws.proofs.Refaced.{reface, reface_itself, refaced, refaced_alike, refaced_shape, refaced_comes, placed}
@@ -41,8 +42,8 @@ use Rattle.link_laws.proofs.BrushEdits.{BrushEdit, IsBrushNumber}
 
 -- Pruning looks at the map before for children and for what stands above.
 prune_alike : (m B : Whole) → Alike m B → (c : Command) (k : Whole) → prune B c k ≡ prune m c k
-prune_alike m B a c k = turn_same (λ n. each_in_turn (drop_emptied B) (Rattle.map_model.specs.Tree.above B n)) (λ n. each_in_turn (drop_emptied m) (Rattle.map_model.specs.Tree.above m n))
-    (λ n w. ap (λ l. each_in_turn (drop_emptied B) l w) (same_above a n) ∙ turn_same (drop_emptied B) (drop_emptied m) drop (Rattle.map_model.specs.Tree.above m n) w) (named c) k
+prune_alike m B a c k = turn_same (λ n. each_in_turn (drop_emptied B) (above B n)) (λ n. each_in_turn (drop_emptied m) (above m n))
+    (λ n w. ap (λ l. each_in_turn (drop_emptied B) l w) (same_above a n) ∙ turn_same (drop_emptied B) (drop_emptied m) drop (above m n) w) (named c) k
   where
     drop : (q : ℕ) (w : Whole) → drop_emptied B q w ≡ drop_emptied m q w
     drop q w = ap (λ l. cond (((is_kind w entity q || is_kind w group q) && (not (length l == 0) && (length (children w q) == 0))) && not (is_linked w q)) (forget (q ∷ []) (take_out q w)) w) (same_children a q)
@@ -54,9 +55,6 @@ empty_alike m B a c p = λ i. at_each (named c) (λ n. at_each (option_to_list (
 module _ (m : Whole) (c : Command) (e : Whole → Whole) (shape : Shape m) (d : BrushEdit (λ n. n ∈ named c) e) (brushes : (n : ℕ) → n ∈ named c → kind_at m n ≡ Some brush)
     (own : (x : Whole) (n : ℕ) → edits x c n ≡ option_to_list (over x n))
     (is : (x p : Whole) → edited x c p ≡ filter (λ g. is_linked p g && among g (flat_map (edits x c) (named c))) (all_numbers x)) where
-  abbrev P : Whole
-  P = prune m c (e m)
-
   bound : Bounded m
   bound = shape.numbers.nodes
 
@@ -119,13 +117,10 @@ module _ (m : Whole) (c : Command) (e : Whole → Whole) (shape : Shape m) (d : 
       (refuse_none (is_emptied m (prune m c (e m)) g) (EmptyLink g) row)
 
   -- Without links and marks the command leads to the same.
-  pub erased_is : empty_link m c (prune m c (e m)) ≡ None → prune (erase m) c (e (erase m)) ≡ erase (prune m c (e m))
-  erased_is empty = ap (prune (erase m) c) (d.erases m) ∙ prune_erased m (e m) c (full empty)
+  pub without_links : empty_link m c (prune m c (e m)) ≡ None → prune (erase m) c (e (erase m)) ≡ erase (prune m c (e m))
+  without_links empty = ap (prune (erase m) c) (d.erases m) ∙ prune_erased m (e m) c (full empty)
 
   module _ (right : Shape (erase (prune m c (e m)))) where
-    abbrev B : Whole
-    B = refaced (prune m c (e m)) m
-
     a : Alike m (refaced (prune m c (e m)) m)
     a = refaced_alike (prune m c (e m)) m
 
@@ -141,20 +136,20 @@ module _ (m : Whole) (c : Command) (e : Whole → Whole) (shape : Shape m) (d : 
     out_m : (h : ℕ) → (h ∈ flat_map (edits (refaced (prune m c (e m)) m) c) (named c) → ⊥) → h ∈ flat_map (edits m c) (named c) → ⊥
     out_m h out i = out (subst (λ l. h ∈ l) (sym es) i)
 
-    -- what stands beneath an unedited group is as before in B
+    -- what stands beneath an unedited group is as before in the map between
     stays : (h : ℕ) → is_linked m h ≡ true → (h ∈ flat_map (edits m c) (named c) → ⊥) → (q : ℕ) → Beneath (up m) h q → at (refaced (prune m c (e m)) m) q ≡ at m q
     stays h l out q w = ap (λ p. reface p (at m q)) (left h l out q w) ∙ reface_itself (at m q)
 
     in_m : {h q : ℕ} → Beneath (up (refaced (prune m c (e m)) m)) h q → Beneath (up m) h q
     in_m {h} {q} w = subst (λ f. Beneath f h q) (λ i n. a.ups n i) w
 
-    in_B : {h q : ℕ} → Beneath (up m) h q → Beneath (up (refaced (prune m c (e m)) m)) h q
-    in_B {h} {q} w = subst (λ f. Beneath f h q) (λ i n. sym (a.ups n) i) w
+    in_between : {h q : ℕ} → Beneath (up m) h q → Beneath (up (refaced (prune m c (e m)) m)) h q
+    in_between {h} {q} w = subst (λ f. Beneath f h q) (λ i n. sym (a.ups n) i) w
 
-    placed_P : Placed (prune m c (e m))
-    placed_P = placed m (prune m c (e m)) shape stems right
+    placed_after : Placed (prune m c (e m))
+    placed_after = placed m (prune m c (e m)) shape stems right
 
-    -- what stands above an old node in P stood there
+    -- what stands above an old node once the command is pruned stood there
     back : (h q : ℕ) → q < m.next → Beneath (up (prune m c (e m))) h q → Beneath (up m) h q
     back h q lt itself = itself
     back h q lt (under t p f b) =
@@ -165,15 +160,15 @@ module _ (m : Whole) (c : Command) (e : Whole → Whole) (shape : Shape m) (d : 
     result : Result (refaced (prune m c (e m)) m) c (e m)
     result = record {
       pruned = record {
-        placed = subst Placed (sym same) placed_P;
-        comes = subst (Rattle.map_laws.proofs.Kept.Comes (format_of B) (refaced (prune m c (e m)) m)) (sym same) (refaced_comes m (prune m c (e m)) shape stems right);
+        placed = subst Placed (sym same) placed_after;
+        comes = subst (Comes (format_of (refaced (prune m c (e m)) m)) (refaced (prune m c (e m)) m)) (sym same) (refaced_comes m (prune m c (e m)) shape stems right);
         empties = λ g is_g none. absurd (right.standing.no_empty_group g
-            (Rattle.link_laws.proofs.Erasing.erased_is (prune m c (e m)) group g ∙ sym (ap (λ x. is_kind x group g) same) ∙ is_g)
-            (Rattle.link_laws.proofs.Erasing.erased_children (prune m c (e m)) g ∙ sym (ap (λ x. children x g) same) ∙ none));
+            (erased_is (prune m c (e m)) group g ∙ sym (ap (λ x. is_kind x group g) same) ∙ is_g)
+            (erased_children (prune m c (e m)) g ∙ sym (ap (λ x. children x g) same) ∙ none));
       };
       content = λ h l out j live. subst (SameContent h (refaced (prune m c (e m)) m)) (sym same) (same_by h (refaced (prune m c (e m)) m) (prune m c (e m))
           (λ q w. left h (linked_m h l) (out_m h out) q (in_m w) ∙ sym (stays h (linked_m h l) (out_m h out) q (in_m w))));
-      before = λ h g lh lg w. in_B (back h g (linked_low g (linked_m g lg)) (subst (λ x. Beneath (up x) h g) same w));
+      before = λ h g lh lg w. in_between (back h g (linked_low g (linked_m g lg)) (subst (λ x. Beneath (up x) h g) same w));
     }
 
     unchanged : (h : ℕ) → is_linked m h ≡ true → (h ∈ flat_map (edits m c) (named c) → ⊥) → Unchanged m (refaced (prune m c (e m)) m) h
@@ -201,7 +196,7 @@ module _ (m : Whole) (c : Command) (e : Whole → Whole) (shape : Shape m) (d : 
         empty_link m c (prune m c (e m)) ≡ None → (before_spread m c (e m)).next ≤ 65536 → ToSpread (before_spread m c (e m)) (edited m c (prune m c (e m)))
     remade_spread all one_edited empty most =
         subst (ToSpread (before_spread m c (e m))) edited_is (subst (λ x. ToSpread x (edited (refaced (prune m c (e m)) m) c (prune (refaced (prune m c (e m)) m) c (e m)))) before_is
-        (to_spread_from (refaced (prune m c (e m)) m) c (e m) (refaced_shape m (prune m c (e m)) shape stems right) (λ n i. in_B (rooted n i)) result (is (refaced (prune m c (e m)) m) (prune (refaced (prune m c (e m)) m) c (e m)))
+        (to_spread_from (refaced (prune m c (e m)) m) c (e m) (refaced_shape m (prune m c (e m)) shape stems right) (λ n i. in_between (rooted n i)) result (is (refaced (prune m c (e m)) m) (prune (refaced (prune m c (e m)) m) c (e m)))
         (λ s h j f g ne oh oj.
         let fm = sym (same_set a h) ∙ f in let gm = sym (same_set a j) ∙ g in
         let lh = set_linked m h s fm in let lj = set_linked m j s gm in

@@ -23,7 +23,7 @@ use Rattle.link_laws.proofs.ErasedShape.{erased_shape, erased_unlinked}
 use Rattle.link_laws.proofs.ErasedRows.{rows_erased, reshaping_pass}
 use Rattle.link_laws.proofs.ErasedResult.{pruned_few, shape_by_law}
 use Rattle.link_laws.proofs.BrushCommands.{remakes_brushes, brush_command}
-use Rattle.link_laws.proofs.RemadeSpread.{erased_is, remade_spread}
+use Rattle.link_laws.proofs.RemadeSpread.{without_links, remade_spread}
 use Rattle.link_laws.proofs.NewBrushKeeps.{hull_keeps}
 
 -- Commands that end by spreading the groups over the nodes that they name.
@@ -57,7 +57,7 @@ by_laws rows_law apply_law command_law c is remakes two ends brushes b s m a rig
     let d = brush_command b s c remakes in
     let named_are = brushes b s m none in
     let passes : first (rows b s (erase m) c) ≡ None = rows_law b s (erase m) c is (erased_unlinked m) ∙ ap first (rows_erased b s m c is) ∙ reshaping_pass b s m c is none in
-    let same : prune (erase m) c (own b s (erase m) c) ≡ erase (prune m c (own b s m c)) = erased_is m c (λ x. own b s x c) shape d named_are ends.own_edits ends.groups empty in
+    let same : prune (erase m) c (own b s (erase m) c) ≡ erase (prune m c (own b s m c)) = without_links m c (λ x. own b s x c) shape d named_are ends.own_edits ends.groups empty in
     let few = pruned_few m c (own b s m c) most in
     let there_is = shape_by_law b s (erase m) c (apply_law b s (erase m) c right material is good two (erased_shape m shape) (erased_unlinked m)) passes
         (λ a e. command_law b s (erase m) c a right material is good two (erased_shape m shape) (erased_unlinked m) e) (omega (arith, ap (λ x. x.next) same, few)) in

@@ -4,7 +4,7 @@ use Rattle.map_model.specs.Tree.{Whole}
 use Rattle.map_model.specs.Below.{Below, IsRight}
 use Rattle.map_model.specs.Shape.{Shape}
 use Rattle.map_model.specs.Links.{AllOne}
-use Rattle.map_model.specs.Commands.{Command, IsGood, Settings, Material, Protect, Unlink, Copy, Box}
+use Rattle.map_model.specs.Commands.{Command, IsGood, Settings, Material, Protect, Unprotect, Unlink, Copy, Box}
 use Rattle.map_laws.specs.TreeCommands.{is_tree_command}
 use Rattle.map_laws.specs.BoxCommand.{KeepsMaterial}
 use Rattle.map_laws.specs.Reshaping.{is_reshaping_command, HasPairs}
@@ -26,6 +26,10 @@ MaterialKeepsLaw = (name : List ℕ) → KeepsAllOne (Material name)
 -- The command that protects a key of an entity keeps it.
 abbrev pub ProtectKeepsLaw : Type 0
 ProtectKeepsLaw = (n : ℕ) (key : List ℕ) → KeepsAllOne (Protect n key)
+
+-- The command that protects a key of an entity no more, and gives it the value that the others have, keeps it.
+abbrev pub UnprotectKeepsLaw : Type 0
+UnprotectKeepsLaw = (n : ℕ) (key : List ℕ) → KeepsAllOne (Unprotect n key)
 
 -- The command that takes a group out of its set keeps it.
 abbrev pub UnlinkKeepsLaw : Type 0
