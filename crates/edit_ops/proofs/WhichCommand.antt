@@ -1,7 +1,7 @@
 -- Which commands are of this crate.
 use Rattle.std.proofs.Common.{◌≡◌, List, true, refl, sym, true≢false, ℤ, ℕ}
 use Rattle.exact_geom.specs.declared.axis.Axis.{Axis}
-use Rattle.map_model.specs.Commands.{Command, Part, SurfaceWords, Box, Hull, Copy, Move, Turn, Flip, Clip, Subtract, Hollow, Vertex, Tex}
+use Rattle.map_model.specs.Commands.{Command, Part, SurfaceWords, Box, Hull, Copy, Move, Turn, Flip, Clip, Subtract, Hollow, Vertex, Snap, Tex}
 use Rattle.edit_ops.specs.EditCommands.{is_edit_command}
 
 -- The command is none of these.
@@ -16,6 +16,7 @@ pub record IsOther (c : Command) : Type 0 where
   pub subtract : (by : ℕ) (ns : List ℕ) → ¬ (c ≡ Subtract by ns)
   pub hollow : (thickness : ℤ) (ns : List ℕ) → ¬ (c ≡ Hollow thickness ns)
   pub vertex : (n : ℕ) (shift : List ℤ) (picks : List (List ℤ)) → ¬ (c ≡ Vertex n shift picks)
+  pub snap : (grid : ℤ) (ns : List ℕ) → ¬ (c ≡ Snap grid ns)
   pub tex : (n face : ℕ) (name : List ℕ) (off : List ℤ) (rotation : ℤ) (scale : List ℤ) (surface : SurfaceWords) → ¬ (c ≡ Tex n face name off rotation scale surface)
 
 pub none_other : (c : Command) → is_edit_command c ≡ true → IsOther c → ⊥
@@ -29,5 +30,6 @@ none_other (Clip part plane ns) e other = other.clip part plane ns refl
 none_other (Subtract by ns) e other = other.subtract by ns refl
 none_other (Hollow thickness ns) e other = other.hollow thickness ns refl
 none_other (Vertex n shift picks) e other = other.vertex n shift picks refl
+none_other (Snap grid ns) e other = other.snap grid ns refl
 none_other (Tex n face name off rotation scale surface) e other = other.tex n face name off rotation scale surface refl
 none_other c e other = true≢false (sym e)

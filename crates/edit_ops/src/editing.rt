@@ -35,6 +35,7 @@ pub fn is_edit_command(c: &Command) -> bool
             | Command::Subtract { .. }
             | Command::Hollow { .. }
             | Command::Vertex { .. }
+            | Command::Snap { .. }
             | Command::Tex { .. }
     )
 }
@@ -60,6 +61,7 @@ pub fn edit(alloc: Global, map: &Map, set: &Settings, c: &Command) -> Result<Pla
         Command::Subtract { .. } => cut_plans::edit(alloc, map, set, c),
         Command::Hollow { .. } => hollow_plans::edit(alloc, map, set, c),
         Command::Vertex { .. } => vertex_plans::edit(alloc, map, set, c),
+        Command::Snap { .. } => vertex_plans::edit(alloc, map, set, c),
         Command::Tex { node, face, .. } => plan_tex(alloc, map, set, c, NodeId(*node), *face),
         _ => unreachable!(),
     }

@@ -13,5 +13,6 @@ unreachable-requires c = none_other c.args.c.now c.requires.own (record {
   subtract = c.in_default.not-Subtract;
   hollow = c.in_default.not-Hollow;
   vertex = c.in_default.not-Vertex;
+  snap = c.in_default.not-Snap;
   tex = c.in_default.not-Tex;
 })
