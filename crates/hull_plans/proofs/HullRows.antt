@@ -37,7 +37,7 @@ unless_so true d n = absurd (n (d.0 refl))
 unless_so false d n = refl
 
 -- A point of the world.
-within_world : (p : Point) → InCube world (whole_point (vector p)) → is_outside_world p ≡ false
+pub within_world : (p : Point) → InCube world (whole_point (vector p)) → is_outside_world p ≡ false
 unfolding whole_point
 within_world p c =
     let x : unsigned_abs p.x ≤ 4096 = let l = c.left in let r = c.right in omega (arith, ints) in

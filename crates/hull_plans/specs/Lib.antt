@@ -2,3 +2,5 @@
 pub mod HullCommands
 pub mod Hulls
 pub mod Hulled
+pub mod GivenFaces
+pub mod Merges

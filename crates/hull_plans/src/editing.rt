@@ -10,6 +10,7 @@ ghost use Rattle.tree_ops.specs.Faults.{RefusesRightly};
 ghost use Rattle.hull_plans.specs.HullCommands.{is_hull_command};
 
 use crate::hulling::plan_hull;
+use crate::merging::plan_merge;
 use cmd_text::Command;
 use std::alloc::Global;
 use tree_node::Map;
@@ -19,7 +20,7 @@ use tree_ops::{OpFault, Planned, Settings};
 pub fn is_hull_command(c: &Command) -> bool
     ensures { result ≡ is_hull_command c.now }
 {
-    matches!(c, Command::Hull { .. })
+    matches!(c, Command::Hull { .. } | Command::Merge { .. })
 }
 
 /// Plans a command of this crate: the first refusal of the one order, or a change that names exactly the nodes that differ,
@@ -34,6 +35,7 @@ pub fn edit(alloc: Global, map: &Map, set: &Settings, c: &Command) -> Result<Pla
 {
     match c {
         Command::Hull { points } => plan_hull(alloc, map, set, points),
+        Command::Merge { nodes } => plan_merge(alloc, map, set, nodes),
         _ => unreachable!(),
     }
 }
