@@ -23,8 +23,9 @@ use Rattle.map_model.proofs.Members.{in_map, map_in}
 use Rattle.map_laws.proofs.FacetFaces.{firsts_in, none_outside}
 use Rattle.map_laws.proofs.Tests.{some_passes}
 use Rattle.hull_plans.specs.Hulls.{sides_on, facets_of, hull_rows, IsHullAt}
-use Rattle.hull_plans.proofs.Facets.{points_at, facet_places, are_facets, facets_are}
-use Rattle.hull_plans.proofs.Distinct.{same_vector, vectors_are, count_is, spans_decides}
+use Rattle.facet_laws.specs.Places.{points_at}
+use Rattle.facet_laws.proofs.Facets.{facet_places, are_facets, facets_are}
+use Rattle.facet_laws.proofs.Distinct.{same_vector, vectors_are, count_is, spans_decides}
 
 few : (most n : ℕ) → n ≤ most → nat_lt most n ≡ false
 few most n le = grind (arith, nat_tests)

@@ -1,7 +1,3 @@
-pub mod Places
-pub mod Listing
-pub mod Facets
-pub mod Distinct
 mod HullRows
 mod HullOutcomes
 mod CornerPoints

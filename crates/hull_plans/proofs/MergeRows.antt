@@ -42,7 +42,7 @@ use Rattle.cut_plans.proofs.Laws.{some_are_right}
 use Rattle.cut_plans.proofs.Trimmed.{valid_bounded}
 use Rattle.hull_plans.specs.Hulls.{sides_on, facets_of, hull_rows, IsHullAt}
 use Rattle.hull_plans.specs.Merges.{AreInWorld, corners_at, fraction, AreCorners, IsCorners, merge_refusal, IsMerged}
-use Rattle.hull_plans.proofs.Distinct.{spans_decides}
+use Rattle.facet_laws.proofs.Distinct.{spans_decides}
 use Rattle.hull_plans.proofs.HullRows.{within_world}
 use Rattle.hull_plans.proofs.HullOutcomes.{planes_are}
 use Rattle.hull_plans.proofs.FirstFaces.{fields_plane}
