@@ -16,3 +16,8 @@ pub mod PartedLists
 pub mod PartedPlacing
 pub mod SubtractRows
 pub mod SubtractOutcomes
+pub mod InTurn
+pub mod Intersected
+pub mod IntersectRows
+pub mod CommonParts
+pub mod IntersectOutcomes

@@ -91,14 +91,14 @@ module _ (old new : List Face) (is : IsSolid (sides_of old)) (also : IsSolid (si
 
 -- The brush that cuts. ------------------------------------------------------------------------------------------------------------------
 
-pub room_above : (fs : List Face) (sides : List Side) → sides ≡ sides_of fs → IsSolid (sides_of fs) → Every (λ s. s.tag + 128 < 2 ^ 31) sides
-room_above fs sides e is s i =
+pub room_above : (base : ℕ) → base ≤ 2 ^ 30 → (fs : List Face) (sides : List Side) → sides ≡ sides_of fs → IsSolid (sides_of fs) → Every (λ s. s.tag + base < 2 ^ 31) sides
+room_above base small fs sides e is s i =
     let few = few_faces fs is in
     let w = (tag_within 0 fs s (subst (λ l. s ∈ l) e i)).1 in omega arith
 
-pub raised_are : (fs body : List Face) (sides above : List Side) → sides ≡ sides_of fs → body ≡ fs → above ≡ map (with_base 128) sides → above ≡ sides_from 128 body
-raised_are fs body sides above e same r =
-    r ∙ ap (map (with_base 128)) e ∙ raised 128 0 fs ∙ ap (λ k. sides_from k fs) (let z : 0 + 128 ≡ 128 = omega arith in z) ∙ ap (sides_from 128) (sym same)
+pub raised_are : (base : ℕ) (fs body : List Face) (sides above : List Side) → sides ≡ sides_of fs → body ≡ fs → above ≡ map (with_base base) sides → above ≡ sides_from base body
+raised_are base fs body sides above e same r =
+    r ∙ ap (map (with_base base)) e ∙ raised base 0 fs ∙ ap (λ k. sides_from k fs) (let z : 0 + base ≡ base = omega arith in z) ∙ ap (sides_from base) (sym same)
 
 module _ (old by : List Face) (is : IsSolid (sides_of old)) (also : IsSolid (sides_of by)) (sides cutter : List Side) (these : sides ≡ sides_of old) (those : cutter ≡ sides_from 128 by) where
   both : sides ++ cutter ≡ sides_of old ++ sides_from 128 by

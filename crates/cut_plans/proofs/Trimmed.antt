@@ -48,7 +48,7 @@ brush_bounded fs more valid = bounded_more (half_spaces fs) (half_spaces (fs ++ 
 
 -- Sides that stand for faces. -------------------------------------------------------------------------------------------------------
 
-not_so : {P : Type 0} (t : Bool) → Decides t P → ¬ P → t ≡ false
+pub not_so : {P : Type 0} (t : Bool) → Decides t P → ¬ P → t ≡ false
 not_so true d n = absurd (n (d.0 refl))
 not_so false d n = refl
 

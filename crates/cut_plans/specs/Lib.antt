@@ -5,3 +5,4 @@ pub mod Results
 pub mod Clips
 pub mod Ending
 pub mod Subtracts
+pub mod Intersects

@@ -10,6 +10,7 @@ ghost use Rattle.tree_ops.specs.Faults.{RefusesRightly};
 ghost use Rattle.cut_plans.specs.CutCommands.{is_cut_command};
 
 use crate::clip_plans::plan_clip;
+use crate::intersect_plans::plan_intersect;
 use crate::subtract_plans::plan_subtract;
 use cmd_text::Command;
 use std::alloc::Global;
@@ -20,7 +21,10 @@ use tree_ops::{OpFault, Planned, Settings};
 pub fn is_cut_command(c: &Command) -> bool
     ensures { result ≡ is_cut_command c.now }
 {
-    matches!(c, Command::Clip { .. } | Command::Subtract { .. })
+    matches!(
+        c,
+        Command::Clip { .. } | Command::Subtract { .. } | Command::Intersect { .. }
+    )
 }
 
 /// Plans a command of this crate: the first refusal of the one order, or a change that names exactly the nodes that differ,
@@ -36,6 +40,7 @@ pub fn edit(alloc: Global, map: &Map, set: &Settings, c: &Command) -> Result<Pla
     match c {
         Command::Clip { part, plane, nodes } => plan_clip(alloc, map, set, *part, *plane, nodes),
         Command::Subtract { by, nodes } => plan_subtract(alloc, map, set, *by, nodes),
+        Command::Intersect { nodes } => plan_intersect(alloc, map, set, nodes),
         _ => unreachable!(),
     }
 }

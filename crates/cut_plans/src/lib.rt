@@ -1,4 +1,4 @@
-//! Commands that cut brushes, planned over a map: `clip` and `subtract`.
+//! Commands that cut brushes, planned over a map: `clip`, `subtract` and `intersect`.
 //!
 //! [`edit`] gives the first refusal of the one order in which refusals are tried, or else a change that names exactly the
 //! nodes that differ, with the reply. It changes no map. Each part of a brush is cut from the brush's solid, and its faces
@@ -11,6 +11,8 @@ mod clipping;
 mod cutter;
 mod editing;
 mod halves;
+mod intersect_plans;
+mod intersecting;
 mod piece_bodies;
 mod solid_bodies;
 mod subtract_plans;
