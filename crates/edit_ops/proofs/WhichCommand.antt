@@ -1,7 +1,7 @@
 -- Which commands are of this crate.
 use Rattle.std.proofs.Common.{◌≡◌, List, true, refl, sym, true≢false, ℤ, ℕ}
 use Rattle.exact_geom.specs.declared.axis.Axis.{Axis}
-use Rattle.map_model.specs.Commands.{Command, Part, SurfaceWords, Box, Hull, Copy, Move, Turn, Flip, Clip, Subtract, Merge, Hollow, Vertex, Snap, Tex}
+use Rattle.map_model.specs.Commands.{Command, Part, SurfaceWords, Box, Hull, Copy, Move, Turn, Flip, Clip, Subtract, Intersect, Merge, Hollow, Vertex, Snap, Tex}
 use Rattle.edit_ops.specs.EditCommands.{is_edit_command}
 
 -- The command is none of these.
@@ -14,6 +14,7 @@ pub record IsOther (c : Command) : Type 0 where
   pub flip : (axis : Axis) (place : ℤ) (ns : List ℕ) → ¬ (c ≡ Flip axis place ns)
   pub clip : (part : Part) (plane : List (List ℤ)) (ns : List ℕ) → ¬ (c ≡ Clip part plane ns)
   pub subtract : (by : ℕ) (ns : List ℕ) → ¬ (c ≡ Subtract by ns)
+  pub intersect : (ns : List ℕ) → ¬ (c ≡ Intersect ns)
   pub merge : (ns : List ℕ) → ¬ (c ≡ Merge ns)
   pub hollow : (thickness : ℤ) (ns : List ℕ) → ¬ (c ≡ Hollow thickness ns)
   pub vertex : (n : ℕ) (shift : List ℤ) (picks : List (List ℤ)) → ¬ (c ≡ Vertex n shift picks)
@@ -29,6 +30,7 @@ none_other (Turn axis quarters about ns) e other = other.turn axis quarters abou
 none_other (Flip axis place ns) e other = other.flip axis place ns refl
 none_other (Clip part plane ns) e other = other.clip part plane ns refl
 none_other (Subtract by ns) e other = other.subtract by ns refl
+none_other (Intersect ns) e other = other.intersect ns refl
 none_other (Merge ns) e other = other.merge ns refl
 none_other (Hollow thickness ns) e other = other.hollow thickness ns refl
 none_other (Vertex n shift picks) e other = other.vertex n shift picks refl

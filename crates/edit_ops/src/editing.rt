@@ -33,6 +33,7 @@ pub fn is_edit_command(c: &Command) -> bool
             | Command::Flip { .. }
             | Command::Clip { .. }
             | Command::Subtract { .. }
+            | Command::Intersect { .. }
             | Command::Merge { .. }
             | Command::Hollow { .. }
             | Command::Vertex { .. }
@@ -60,6 +61,7 @@ pub fn edit(alloc: Global, map: &Map, set: &Settings, c: &Command) -> Result<Pla
         Command::Flip { .. } => plan_moving(alloc, map, set, c),
         Command::Clip { .. } => cut_plans::edit(alloc, map, set, c),
         Command::Subtract { .. } => cut_plans::edit(alloc, map, set, c),
+        Command::Intersect { .. } => cut_plans::edit(alloc, map, set, c),
         Command::Merge { .. } => hull_plans::edit(alloc, map, set, c),
         Command::Hollow { .. } => hollow_plans::edit(alloc, map, set, c),
         Command::Vertex { .. } => vertex_plans::edit(alloc, map, set, c),

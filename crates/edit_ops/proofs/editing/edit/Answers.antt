@@ -11,6 +11,7 @@ unreachable-requires c = none_other c.args.c.now c.requires.own (record {
   flip = c.in_default.not-Flip;
   clip = c.in_default.not-Clip;
   subtract = c.in_default.not-Subtract;
+  intersect = c.in_default.not-Intersect;
   merge = c.in_default.not-Merge;
   hollow = c.in_default.not-Hollow;
   vertex = c.in_default.not-Vertex;
