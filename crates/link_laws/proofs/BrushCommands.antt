@@ -1,5 +1,5 @@
 -- The commands that remake brushes are edits of the brushes that they name.
-use Rattle.std.proofs.Common.{◌≡◌, ℕ, List, [], ◌∷◌, ◌++◌, flat_map, map, ap, refl, Option, Some, None, true, false, Bool}
+use Rattle.std.proofs.Common.{◌≡◌, ℕ, List, [], ◌∷◌, ◌++◌, flat_map, map, ap, Some, None, true, false, Bool}
 use Rattle.std.specs.List.{find}
 use Rattle.algebra.specs.Members.{◌∈◌, here, there}
 use Rattle.exact_geom.specs.Planes.{ThreePoints}

@@ -1,5 +1,5 @@
 -- Edits of brushes: they read no link and no mark, keep stems, and leave all but the brushes that they name and these brushes' parents.
-use Rattle.std.proofs.Common.{◌≡◌, ◌≢◌, ℕ, zero, suc, ◌<◌, List, [], ◌∷◌, ◌++◌, flat_map, map, length, Bool, false, cond, ◌==◌, ◌||◌, refl, ap, sym, ◌∙◌, subst, arith, Option, Some, None, option_map}
+use Rattle.std.proofs.Common.{◌≡◌, ◌≢◌, ℕ, zero, suc, ◌<◌, List, [], ◌∷◌, ◌++◌, flat_map, map, length, Bool, false, cond, ◌||◌, refl, ap, sym, ◌∙◌, subst, arith, Option, Some, None, option_map}
 use Rattle.std.specs.Prelude.{unwrap_or, option_and_then}
 use Rattle.std.proofs.lemmas.Bool.{ne_eqb}
 use Rattle.algebra.specs.Members.{◌∈◌, here, there}

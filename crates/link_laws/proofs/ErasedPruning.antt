@@ -1,18 +1,17 @@
 -- Pruning, in a map and in the map without its links and marks: the same, where no linked group is emptied.
-use Rattle.std.proofs.Common.{◌≡◌, ◌≢◌, ℕ, ◌<◌, List, [], ◌∷◌, ◌++◌, flat_map, length, Bool, true, false, cond, not, ◌==◌, ◌&&◌, ◌||◌, refl, ap, sym, ◌∙◌, subst, arith, Option, Some, None, option_map, inl, inr}
-use Rattle.std.specs.Prelude.{unwrap_or, is_some, option_to_list}
+use Rattle.std.proofs.Common.{◌≡◌, ℕ, ◌<◌, List, [], ◌∷◌, ◌++◌, flat_map, length, Bool, true, false, cond, not, ◌==◌, ◌&&◌, ◌||◌, refl, ap, sym, ◌∙◌, subst, Option, Some, None, option_map}
+use Rattle.std.specs.Prelude.{unwrap_or, is_some}
 use Rattle.std.proofs.lemmas.Bool.{and_parts}
 use Rattle.algebra.specs.Members.{◌∈◌, here, there}
-use Rattle.map_model.specs.Tree.{Whole, Node, World, Layer, Group, Entity, Brush, Kind, group, entity, at, up, above, children, brushes_of, others_of, link_of, is_kind, is_linked, is_brush}
-use Rattle.map_model.specs.Edits.{renew, relist, each_in_turn, without, take_out, forget}
+use Rattle.map_model.specs.Tree.{Whole, Node, World, Layer, Group, Entity, Brush, group, entity, at, up, children, brushes_of, others_of, link_of, is_linked, is_brush}
+use Rattle.map_model.specs.Edits.{relist, each_in_turn, without, take_out, forget}
 use Rattle.map_model.specs.Commands.{Command}
 use Rattle.map_model.specs.Rows.{named}
 use Rattle.map_model.specs.Apply.{is_emptied, drop_emptied, prune}
 use Rattle.map_laws.specs.Placed.{Bounded}
 use Rattle.map_laws.proofs.Lists.{by_eq}
 use Rattle.map_laws.proofs.Forest.{up_or_not}
-use Rattle.map_laws.proofs.Skeleton.{not_both}
-use Rattle.map_laws.proofs.Slots.{by_bool, at-renew_same, at-renew_other, take_out-is, take_out-none}
+use Rattle.map_laws.proofs.Slots.{at-renew_same, at-renew_other, take_out-is, take_out-none}
 use Rattle.map_laws.proofs.Pruning.{prune-walk, emptied_children}
 use Rattle.map_laws.proofs.Pruned.{chain_list}
 use Rattle.link_laws.proofs.Moves.{taken_at}
@@ -87,8 +86,8 @@ take_out_stays m n g x = up_or_not (up m n)
     (λ e. by_slot (ap (λ k. at k g) (take_out-none m n e)) x)
     (λ p e. subst (λ k. LeftEmpty k g) (sym (take_out-is m n p e)) (by_eq g p
     (λ s. let w = slot_stays (is_brush m n) n (at m g) x.linked x.none in
-        let f = at-renew_same m p g (relist (is_brush m n) (without n)) s in
-        record { linked = ap linked_slot f ∙ w.0; none = ap child_slot f ∙ w.1 })
+    let f = at-renew_same m p g (relist (is_brush m n) (without n)) s in
+    record { linked = ap linked_slot f ∙ w.0; none = ap child_slot f ∙ w.1 })
     (λ ne. by_slot (at-renew_other m p g (relist (is_brush m n) (without n)) ne) x)))
 
 drop_stays : (before m : Whole) (n g : ℕ) → LeftEmpty m g → LeftEmpty (drop_emptied before n m) g

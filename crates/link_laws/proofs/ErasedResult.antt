@@ -1,7 +1,7 @@
 -- What the laws of maps without links tell of the map without its links and marks.
-use Rattle.std.proofs.Common.{◌≡◌, ◌≢◌, ℕ, ◌+◌, ◌-◌, ◌<◌, ◌≤◌, List, [], ◌∷◌, ◌++◌, Bool, true, false, cond, refl, ap, sym, ◌∙◌, subst, arith, Option, Some, None, option_map, Ok, inl, inr}
+use Rattle.std.proofs.Common.{◌≡◌, ◌≢◌, ℕ, ◌-◌, ◌≤◌, List, [], ◌∷◌, ◌++◌, Bool, true, false, cond, refl, ap, sym, ◌∙◌, subst, arith, Option, Some, None, option_map, Ok}
 use Rattle.std.specs.Prelude.{unwrap_or}
-use Rattle.std.proofs.lemmas.Bool.{le-ltb, cases_lt}
+use Rattle.std.proofs.lemmas.Bool.{le-ltb}
 use Rattle.uv_lock.specs.declared.texture.Format.TheVariants.{Standard}
 use Rattle.map_model.specs.Faces.{Face}
 use Rattle.map_model.specs.Tree.{Whole, Node, World, Brush, world, at, over, content, kind_of, is_brush, is_one_number, format_of, format_of_node, with_parent, with_mark, all_numbers}
@@ -12,7 +12,7 @@ use Rattle.map_model.specs.Commands.{Command, Settings}
 use Rattle.map_model.specs.Replies.{Full}
 use Rattle.map_model.specs.Rows.{rows, first, refuse}
 use Rattle.map_model.specs.Own.{own}
-use Rattle.map_model.specs.Apply.{Applied, apply, prune, edited, marked, mark_new, mark_content, unmark, before_spread, reply_of, unless, full}
+use Rattle.map_model.specs.Apply.{Applied, apply, prune, edited, mark_new, mark_content, unmark, before_spread, reply_of, unless}
 use Rattle.map_laws.specs.Placed.{NewOk}
 use Rattle.map_laws.specs.Unlinked.{Unlinked, finish_unlinked, apply_unlinked}
 use Rattle.map_laws.proofs.Forest.{not_none}

@@ -1,7 +1,7 @@
 -- The rows of commands that remake brushes don't look at links and marks.
-use Rattle.std.proofs.Common.{◌≡◌, ℕ, List, [], ◌∷◌, ◌++◌, flat_map, length, map, Bool, true, false, not, ◌&&◌, refl, ap, sym, ◌∙◌, Option, Some, None, option_map, ◌+ℤ◌}
+use Rattle.std.proofs.Common.{◌≡◌, ℕ, List, [], ◌∷◌, ◌++◌, flat_map, length, map, true, not, ◌&&◌, refl, ap, sym, ◌∙◌, Option, Some, None, option_map, ◌+ℤ◌}
 use Rattle.std.specs.Prelude.{is_none, nat_lt}
-use Rattle.std.specs.List.{list_any, list_all}
+use Rattle.std.specs.List.{list_any}
 use Rattle.exact_geom.specs.Planes.{ThreePoints}
 use Rattle.map_model.specs.Faces.{Face}
 use Rattle.map_model.specs.Tree.{Whole, Node, at, faces_at, is_brush}
@@ -9,7 +9,7 @@ use Rattle.map_model.specs.Below.{Below}
 use Rattle.map_model.specs.Brushes.{has_inside, reversed_plane, pieces, is_box, distinct_points, vertices_of, as_point, are_whole, rounded, picked, changed_points, changed_faces, spans_space, is_outside_world, trimmed, facets}
 use Rattle.map_model.specs.Commands.{Part, Front, Back, Both, Command, Settings, plane_in, points_in, vector_in, Tex, Clip, Subtract, Intersect, Hollow, Hull, Merge, Vertex, Snap}
 use Rattle.map_model.specs.Replies.{Refusal, NoNode, WrongKind, LockedLayer, PlaneMisses, Apart, NotBox, Thick, FractionalVertex, NoVolume, OutOfWorld, TooManyPoints, NoVertex}
-use Rattle.map_model.specs.Rows.{refuse, first, at_each, named, fits, rows, no_node, repeated, wrong_kind, nested_ids, locked_layer, passes_frozen_by, clip_results, plane_misses, apart, first_apart, not_box, thick, has_short_side, no_vertex, at_each_pick, is_vertex, fractional_vertex, too_many_points, point_range, no_volume, too_many_faces, too_many, first_of, out_of_world, flat_plane, merged}
+use Rattle.map_model.specs.Rows.{refuse, first, at_each, named, fits, rows, no_node, repeated, wrong_kind, nested_ids, locked_layer, passes_frozen_by, clip_results, plane_misses, apart, first_apart, not_box, thick, has_short_side, no_vertex, at_each_pick, is_vertex, fractional_vertex, too_many_points, point_range, no_volume, too_many_faces, too_many, first_of, out_of_world, flat_plane}
 use Rattle.map_laws.specs.Reshaping.{is_reshaping_command, reshaping_rows, on_brushes}
 use Rattle.map_laws.proofs.Refused.{first_none}
 use Rattle.map_laws.proofs.RowsPass.{RowsPass, rows_pass}

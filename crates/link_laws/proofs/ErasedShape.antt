@@ -1,7 +1,7 @@
 -- The map without its links and marks has the shape of maps.
-use Rattle.std.proofs.Common.{◌≡◌, ℕ, [], ◌≤◌, Bool, true, false, refl, ap, sym, ◌∙◌, subst, Option, Some, None, option_map}
+use Rattle.std.proofs.Common.{◌≡◌, refl, ap, sym, ◌∙◌, subst, option_map}
 use Rattle.uv_lock.specs.declared.texture.Format.{Format}
-use Rattle.map_model.specs.Tree.{Whole, Node, World, Layer, Group, Entity, Brush, group, at, link_of, mark_of, format_of}
+use Rattle.map_model.specs.Tree.{Whole, Node, World, Layer, Group, Entity, Brush, group, at, link_of, format_of}
 use Rattle.map_model.specs.Shape.{Shape, NodeOk, LinkOk}
 use Rattle.map_laws.specs.Placed.{Placed, NewOk}
 use Rattle.map_laws.specs.Unlinked.{Unlinked}

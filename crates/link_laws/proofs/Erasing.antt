@@ -1,13 +1,11 @@
 -- A map without its links and marks: what doesn't read them is the same there, and edits that don't touch them lead to the same.
-use Rattle.std.proofs.Common.{◌≡◌, ◌≢◌, ℕ, zero, suc, List, [], ◌∷◌, ◌++◌, flat_map, map, length, Bool, true, false, cond, ◌==◌, refl, ap, sym, ◌∙◌, Option, Some, None, option_map}
+use Rattle.std.proofs.Common.{◌≡◌, ℕ, zero, suc, List, [], ◌∷◌, ◌++◌, flat_map, map, length, Bool, true, false, cond, ◌==◌, refl, ap, sym, ◌∙◌, Option, Some, None, option_map}
 use Rattle.std.specs.Prelude.{unwrap_or, option_and_then, is_some}
-use Rattle.uv_lock.specs.declared.texture.Format.{Format}
 use Rattle.uv_lock.specs.declared.texture.Format.TheVariants.{Standard}
 use Rattle.map_model.specs.Faces.{Face}
-use Rattle.map_model.specs.Tree.{Whole, Node, World, Layer, Group, Entity, Brush, Kind, at, up, children, above, above_by, preorder, preorder_by, is_brush, is_kind, is_linked, same_kind, has_kind, kind_of, brush, parent_of, brushes_of, others_of, faces_of, faces_at, link_of, is_frozen, has, format_of, format_of_node, numbers_from, with_mark, with_link, with_faces}
+use Rattle.map_model.specs.Tree.{Whole, Node, World, Brush, Kind, at, up, children, above, above_by, preorder, preorder_by, is_brush, is_kind, is_linked, same_kind, has_kind, kind_of, brush, parent_of, brushes_of, others_of, faces_of, faces_at, link_of, is_frozen, has, format_of, format_of_node, numbers_from, with_mark, with_link, with_faces}
 use Rattle.map_model.specs.Edits.{renew, relist, draw, draw_number, each_in_turn, set, without, in_place, take_out, put_at, forget, delete, replace_by, put_after}
 use Rattle.map_laws.proofs.Skeleton.{kind_at, list_at}
-use Rattle.map_laws.proofs.Nodes.{list_in}
 use Rattle.map_laws.proofs.Slots.{same_whole}
 
 abbrev pub erased : Node → Node

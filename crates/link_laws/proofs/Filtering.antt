@@ -1,11 +1,9 @@
 -- Members of filtered lists, and the first that passes.
-use Rattle.std.proofs.Common.{◌≡◌, ◌≢◌, ℕ, zero, suc, ◌+◌, ◌<◌, ◌≤◌, List, [], ◌∷◌, length, flat_map, Bool, true, false, cond, not, ◌==◌, ◌⊎◌, inl, inr, refl, ap, sym, ◌∙◌, subst, arith, Option, Some, None, option_map, filter, eqb-true}
-use Rattle.std.specs.Prelude.{unwrap_or, option_and_then, is_some, is_none}
+use Rattle.std.proofs.Common.{◌≡◌, ℕ, suc, ◌≤◌, List, [], ◌∷◌, Bool, true, false, cond, ◌==◌, refl, ap, sym, ◌∙◌, subst, arith, Some, filter}
 use Rattle.std.specs.List.{find}
-use Rattle.std.proofs.lemmas.Bool.{cases_lt, eq-eqb}
 use Rattle.algebra.specs.Members.{◌∈◌, here, there}
-use Rattle.map_laws.proofs.Lists.{by_eq, tally, tally-flat, tally-member, member-flat, member-from_flat}
-use Rattle.map_laws.proofs.Slots.{says_kind, by_bool, at-renew_other}
+use Rattle.map_laws.proofs.Lists.{tally}
+use Rattle.map_laws.proofs.Slots.{by_bool}
 
 -- Filters.
 filter_step : (t b : Bool) (r s : ℕ) → r ≤ s → cond t (cond b (suc r) r) r ≤ cond b (suc s) s

@@ -1,16 +1,16 @@
 -- A key that is protected no more, with the value that another entity has: what the node's properties are then, and that they are right.
-use Rattle.std.proofs.Common.{◌≡◌, ℕ, List, [], ◌∷◌, Bool, true, false, cond, not, inr, refl, ap, sym, ◌∙◌, subst, Option, Some, None}
+use Rattle.std.proofs.Common.{◌≡◌, ℕ, List, [], ◌∷◌, true, false, not, inr, refl, ap, sym, ◌∙◌, subst, Option, Some, None}
 use Rattle.std.specs.Prelude.{is_some, if◌then◌else◌}
 use Rattle.std.specs.List.{list_all}
 use Rattle.std.specs.Str.{bytes_eq}
-use Rattle.std.proofs.lemmas.Bool.{and_parts, true≢false}
+use Rattle.std.proofs.lemmas.Bool.{and_parts}
 use Rattle.std.proofs.lemmas.Slice.Eq.{bytes_eq-Decides}
 use Rattle.uv_lock.specs.declared.texture.Format.{Format}
 use Rattle.map_lex.specs.OneToken.{is_value_text, is_key_text}
 use Rattle.map_model.specs.Tree.{Node, World, Layer, Group, Entity, Brush, Props, entity, kind_of, parent_of, brushes_of, others_of, link_of, mark_of, format_of_node, props_of, protected_of, with_props, with_protected}
 use Rattle.map_model.specs.Props.{value_at, set_value, without_key, is_file_key}
 use Rattle.map_model.specs.Own.{value_from, without_text}
-use Rattle.map_model.specs.Shape.{NodeOk, PropsOk}
+use Rattle.map_model.specs.Shape.{NodeOk}
 use Rattle.map_laws.specs.Placed.{KeepsAll}
 use Rattle.map_laws.proofs.Properties.{node_put, node_without}
 use Rattle.link_laws.proofs.Values.{by_bool, text_is, value_here, value_there, value_filter_in, value_filter_out, key_in}

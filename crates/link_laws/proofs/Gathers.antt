@@ -198,4 +198,3 @@ tie_gathers f m class n ns standing bound fit new =
         bare : (a : ℕ) {q : ℕ} (r : ℕ) → kind_at m a ≡ Some brush → Beneath (up m) a q → up m r ≡ Some q → ⊥
         bare a r k itself e = no_child_of a r k e
         bare a r k (under s p f v) e = bare a s k v f
-

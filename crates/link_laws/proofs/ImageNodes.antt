@@ -60,8 +60,7 @@ can_be_moved b h q r (Entity parent mark props protected brushes) e = tt
 can_be_moved b h q r (Brush parent mark faces) e =
     let s = no_at _ (first_beyond (moved_plane r) faces) _ e in
     let u = no_if _ _ _ s.1 in
-    let v = no_at _ (first_place (λ f. is_none (carry true r f)) 0 faces) None u.1 in
-    (
+    let v = no_at _ (first_place (λ f. is_none (carry true r f)) 0 faces) None u.1 in (
       (λ f i. carries r f (no_place (λ f. not (is_none (first_out_of_range (moved_plane r f.plane)))) 0 faces s.0 f i) (no_place (λ f. is_none (carry true r f)) 0 faces v.0 f i)),
       u.0,
     )

@@ -30,9 +30,12 @@ node_protects : (f : Format) (key : List ℕ) (b : Below) (s : Settings) (m : Wh
 node_protects f key b s m n good none (World own props brushes others) h = h
 node_protects f key b s m n good none (Layer name frozen props brushes others) h = h
 node_protects f key b s m n good none (Group parent mark name link props brushes others) h = h
-node_protects f key b s m n good none (Entity parent mark props protected brushes) h =
-    (h.0, h.1, key_joins protected key h.2 (name_value key good.texts) (may_be_protected key (name_some key good.texts)
-    (refuse_none (is_file_key key || (bytes_eq key classname || (bytes_eq key origin || list_any (λ b. b == 59) key))) (ReservedKey n) (rows_pass b s m (Protect n key) none).key)))
+node_protects f key b s m n good none (Entity parent mark props protected brushes) h = (
+  h.0,
+  h.1,
+  key_joins protected key h.2 (name_value key good.texts) (may_be_protected key (name_some key good.texts)
+      (refuse_none (is_file_key key || (bytes_eq key classname || (bytes_eq key origin || list_any (λ b. b == 59) key))) (ReservedKey n) (rows_pass b s m (Protect n key) none).key)),
+)
 node_protects f key b s m n good none (Brush parent mark faces) h = h
 
 pub protect_keeps : (n : ℕ) (key : List ℕ) → KeepsAllOne (Protect n key)

@@ -107,9 +107,10 @@ value_parts : (xs ys : List ℕ) → is_value_text (xs ++ 59 ∷ ys) ≡ true �
 value_parts xs ys e =
     let k = and_parts (quotes_are_escaped 34 (xs ++ 59 ∷ ys)) (list_all (λ b. not (b == 10) && not (is_stray b)) (xs ++ 59 ∷ ys)) e in
     let q = quotes_parts 34 xs ys k.0 in
-    let a = all_parts (λ b. not (b == 10) && not (is_stray b)) xs (59 ∷ ys) k.1 in
-    (and_from (quotes_are_escaped 34 xs) (list_all (λ b. not (b == 10) && not (is_stray b)) xs) q.0 a.0,
-    and_from (quotes_are_escaped 34 ys) (list_all (λ b. not (b == 10) && not (is_stray b)) ys) (quotes_sooner ys q.1) a.1)
+    let a = all_parts (λ b. not (b == 10) && not (is_stray b)) xs (59 ∷ ys) k.1 in (
+      and_from (quotes_are_escaped 34 xs) (list_all (λ b. not (b == 10) && not (is_stray b)) xs) q.0 a.0,
+      and_from (quotes_are_escaped 34 ys) (list_all (λ b. not (b == 10) && not (is_stray b)) ys) (quotes_sooner ys q.1) a.1,
+    )
 
 values_of_joined : (keys : List (List ℕ)) → is_value_text (joined_keys keys) ≡ true → list_all is_value_text keys ≡ true
 values_of_joined [] e = refl
@@ -167,9 +168,9 @@ pub still_without : (k key : List ℕ) (keys : List (List ℕ)) → bytes_eq k k
 still_without k key [] ne e = refl
 still_without k key (x ∷ keys) ne e = by_bool (bytes_eq x key)
     (λ f. let rest = sym (ap (λ b. is_text_among k (cond (not b) (x ∷ without_text key keys) (without_text key keys))) f) ∙ e in
-        (λ i. (ap (bytes_eq k) ((bytes_eq-Decides x key).0 f) ∙ ne) i || still_without k key keys ne rest i))
+    (λ i. (ap (bytes_eq k) ((bytes_eq-Decides x key).0 f) ∙ ne) i || still_without k key keys ne rest i))
     (λ f. let p = or_parts (bytes_eq k x) (is_text_among k (without_text key keys)) (sym (ap (λ b. is_text_among k (cond (not b) (x ∷ without_text key keys) (without_text key keys))) f) ∙ e) in
-        (λ i. p.0 i || still_without k key keys ne p.1 i))
+    (λ i. p.0 i || still_without k key keys ne p.1 i))
 
 -- A protected key is none of those that can't be.
 pub protected_can : (keys : List (List ℕ)) (key : List ℕ) → list_all can_be_protected keys ≡ true → is_text_among key keys ≡ true → can_be_protected key ≡ true

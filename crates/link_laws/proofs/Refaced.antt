@@ -1,11 +1,10 @@
 -- A map with the faces that its nodes come to have: it stands between a map and what a command that remakes brushes makes of it.
-use Rattle.std.proofs.Common.{◌≡◌, ℕ, ◌<◌, ◌≤◌, List, Bool, true, false, refl, ap, sym, ◌∙◌, subst, arith, Option, Some, None, option_map, inl, inr}
+use Rattle.std.proofs.Common.{◌≡◌, ℕ, ◌<◌, List, Bool, true, false, refl, ap, sym, ◌∙◌, subst, Option, Some, None, option_map, inl, inr}
 use Rattle.std.specs.Prelude.{unwrap_or, option_and_then}
 use Rattle.std.proofs.lemmas.Bool.{cases_lt}
-use Rattle.uv_lock.specs.declared.texture.Format.{Format}
 use Rattle.uv_lock.specs.declared.texture.Format.TheVariants.{Standard}
 use Rattle.map_model.specs.Faces.{Face}
-use Rattle.map_model.specs.Tree.{Whole, Node, World, Layer, Group, Entity, Brush, world, at, up, kind_of, parent_of, link_of, mark_of, mark_at, faces_of, format_of, format_of_node, with_faces}
+use Rattle.map_model.specs.Tree.{Whole, Node, World, world, at, kind_of, parent_of, link_of, mark_of, mark_at, faces_of, format_of, format_of_node, with_faces}
 use Rattle.map_model.specs.Shape.{Shape, NodeOk, LinkOk, EachNode}
 use Rattle.map_laws.specs.Placed.{Placed}
 use Rattle.map_laws.proofs.Forest.{not_none}

@@ -1,12 +1,12 @@
 -- A command that remakes the brushes that it names: the map from which edited groups are spread.
-use Rattle.std.proofs.Common.{◌≡◌, ◌≢◌, ℕ, ◌<◌, ◌≤◌, List, [], ◌∷◌, flat_map, length, Bool, true, false, cond, not, ◌==◌, ◌&&◌, ◌||◌, refl, ap, sym, ◌∙◌, subst, arith, Some, None, option_map, filter, inl, inr}
+use Rattle.std.proofs.Common.{◌≡◌, ℕ, ◌<◌, ◌≤◌, [], ◌∷◌, flat_map, length, true, cond, not, ◌==◌, ◌&&◌, ◌||◌, ap, sym, ◌∙◌, subst, arith, Some, None, filter, inl, inr}
 use Rattle.std.specs.Prelude.{option_to_list, option_and_then}
 use Rattle.std.proofs.lemmas.Bool.{cases_lt}
 use Rattle.algebra.specs.Members.{◌∈◌}
-use Rattle.map_model.specs.Tree.{Whole, Kind, group, entity, brush, at, up, above, over, children, among, is_linked, is_kind, kind_of, parent_of, set_at, all_numbers, format_of}
+use Rattle.map_model.specs.Tree.{Whole, Kind, group, entity, brush, at, up, above, over, children, among, is_linked, is_kind, parent_of, set_at, all_numbers, format_of}
 use Rattle.map_model.specs.Edits.{each_in_turn, take_out, forget}
 use Rattle.map_model.specs.Shape.{Shape}
-use Rattle.map_model.specs.Links.{One, AllOne}
+use Rattle.map_model.specs.Links.{AllOne}
 use Rattle.map_model.specs.Commands.{Command}
 use Rattle.map_model.specs.Replies.{EmptyLink}
 use Rattle.map_model.specs.Rows.{named, edits, refuse, at_each}
@@ -20,7 +20,7 @@ use Rattle.map_laws.proofs.Skeleton.{kind_at, planted, placed_of, is_kind_by, no
 use Rattle.map_laws.proofs.Placing.{chains, no_slot}
 use Rattle.map_laws.proofs.Holding.{kind_p}
 use Rattle.map_laws.proofs.Pruning.{emptied_by}
-use Rattle.map_laws.proofs.Pruned.{Pruned, chain_list, in_chain, rooted_at, rooted_child, above_live}
+use Rattle.map_laws.proofs.Pruned.{chain_list, in_chain, rooted_at, rooted_child, above_live}
 use Rattle.map_laws.proofs.Refused.{each_none, refuse_none}
 use Rattle.map_laws.proofs.Kept.{Comes}
 use Rattle.map_laws.proofs.Renewing.{Alike, same_above, same_children, same_over, same_set, same_linked}

@@ -1,16 +1,15 @@
 -- The commands that remake the brushes that they name keep the sets of linked groups.
-use Rattle.std.proofs.Common.{◌≡◌, ℕ, ◌<◌, List, [], ◌∷◌, flat_map, length, Bool, true, ◌&&◌, refl, ap, sym, ◌∙◌, subst, arith, Option, None, Some, option_map, filter}
+use Rattle.std.proofs.Common.{◌≡◌, ℕ, [], flat_map, length, true, ◌&&◌, refl, ap, ◌∙◌, subst, arith, Option, None, Some, option_map, filter}
 use Rattle.std.specs.Prelude.{option_to_list, nat_lt, unwrap_or}
 use Rattle.std.proofs.lemmas.Bool.{ltb-true}
-use Rattle.algebra.specs.Members.{◌∈◌, here, there}
+use Rattle.algebra.specs.Members.{◌∈◌}
 use Rattle.map_model.specs.Tree.{Whole, Node, World, Layer, Group, Entity, Brush, brush, at, over, among, is_linked, kind_of, faces_of, all_numbers}
 use Rattle.map_model.specs.Shape.{Shape}
-use Rattle.map_model.specs.Links.{AllOne}
-use Rattle.map_model.specs.Below.{Below, IsRight}
-use Rattle.map_model.specs.Commands.{Command, Settings, IsGood, Tex, Clip, Subtract, Intersect, Hollow, Hull, Merge, Vertex, Snap}
+use Rattle.map_model.specs.Below.{Below}
+use Rattle.map_model.specs.Commands.{Command, Settings, Tex, Clip, Subtract, Intersect, Hollow, Hull, Merge, Vertex, Snap}
 use Rattle.map_model.specs.Rows.{rows, first, named, edits}
 use Rattle.map_model.specs.Own.{own}
-use Rattle.map_model.specs.Apply.{Applied, apply, apply_accepted, finish, edited, prune}
+use Rattle.map_model.specs.Apply.{apply_accepted, finish, edited, prune}
 use Rattle.map_laws.specs.Reshaping.{is_reshaping_command, HasPairs, ReshapingRowsLaw, ReshapingApplyLaw, ReshapingCommandLaw}
 use Rattle.map_laws.proofs.Skeleton.{kind_at}
 use Rattle.map_laws.proofs.Refused.{nodes_fit}
@@ -60,7 +59,7 @@ by_laws rows_law apply_law command_law c is remakes two ends brushes b s m a rig
     let same : prune (erase m) c (own b s (erase m) c) ≡ erase (prune m c (own b s m c)) = without_links m c (λ x. own b s x c) shape d named_are ends.own_edits ends.groups empty in
     let few = pruned_few m c (own b s m c) most in
     let there_is = shape_by_law b s (erase m) c (apply_law b s (erase m) c right material is good two (erased_shape m shape) (erased_unlinked m)) passes
-        (λ a e. command_law b s (erase m) c a right material is good two (erased_shape m shape) (erased_unlinked m) e) (omega (arith, ap (λ x. x.next) same, few)) in
+    (λ a e. command_law b s (erase m) c a right material is good two (erased_shape m shape) (erased_unlinked m) e) (omega (arith, ap (λ x. x.next) same, few)) in
     remade_spread m c (λ x. own b s x c) shape d named_are ends.own_edits ends.groups (subst Shape same there_is) all (one_edited b s m c none) empty most) e
 
 module _ (rows_law : ReshapingRowsLaw) (apply_law : ReshapingApplyLaw) (command_law : ReshapingCommandLaw) where

@@ -1,5 +1,5 @@
 -- What nodes keep where brushes get other faces, go, or are new: where they stand, their links and their marks.
-use Rattle.std.proofs.Common.{◌≡◌, ◌≢◌, ℕ, ◌+◌, ◌<◌, ◌≤◌, List, [], ◌∷◌, ◌++◌, map, length, Bool, true, false, cond, ◌⊎◌, inl, inr, refl, ap, sym, ◌∙◌, subst, arith, Option, Some, None, option_map}
+use Rattle.std.proofs.Common.{◌≡◌, ◌≢◌, ℕ, ◌<◌, ◌≤◌, List, [], ◌∷◌, map, length, Bool, true, false, cond, ◌⊎◌, inl, inr, refl, ap, sym, ◌∙◌, subst, arith, Option, Some, None, option_map}
 use Rattle.std.specs.Prelude.{unwrap_or, option_and_then, is_some}
 use Rattle.std.proofs.lemmas.Bool.{cases_lt}
 use Rattle.map_model.specs.Faces.{Face}
@@ -7,9 +7,9 @@ use Rattle.map_model.specs.Tree.{Whole, Node, World, Layer, Group, Entity, Brush
 use Rattle.map_model.specs.Edits.{renew, relist, draw, each_in_turn, without, in_place, take_out, put_at, forget, delete, replace_by, put_after}
 use Rattle.map_laws.specs.Placed.{Bounded}
 use Rattle.map_laws.proofs.Lists.{by_eq}
-use Rattle.map_laws.proofs.Forest.{not_none, up_or_not}
+use Rattle.map_laws.proofs.Forest.{not_none}
 use Rattle.map_laws.proofs.Skeleton.{kind_at}
-use Rattle.map_laws.proofs.Slots.{at-set_same, at-set_other, at-renew_same, at-renew_other, at-forget, next-forget, take_out-is, take_out-none}
+use Rattle.map_laws.proofs.Slots.{at-set_same, at-set_other, at-renew_same, at-renew_other, at-forget, next-forget}
 use Rattle.map_laws.proofs.Kept.{bare}
 
 -- A node without its lists and its faces.

@@ -1,19 +1,18 @@
 -- unprotect keeps the sets of linked groups.
-use Rattle.std.proofs.Common.{◌≡◌, ℕ, List, [], Bool, true, false, not, ◌&&◌, refl, ap, sym, ◌∙◌, Option, None, Some, option_map}
+use Rattle.std.proofs.Common.{◌≡◌, ℕ, List, [], true, false, not, ◌&&◌, refl, ap, sym, ◌∙◌, Option, None, Some, option_map}
 use Rattle.std.specs.Prelude.{unwrap_or}
 use Rattle.std.proofs.lemmas.Bool.{and_right}
 use Rattle.uv_lock.specs.declared.texture.Format.{Format}
 use Rattle.algebra.specs.Members.{here}
 use Rattle.map_model.specs.Tree.{Whole, Node, World, Layer, Group, Entity, Brush, entity, at, is_linked, all_numbers, kind_of, protected_of, protected_at, format_of}
 use Rattle.map_model.specs.Edits.{renew}
-use Rattle.map_model.specs.Shape.{Shape, NodeOk}
+use Rattle.map_model.specs.Shape.{NodeOk}
 use Rattle.map_model.specs.Below.{Below}
 use Rattle.map_model.specs.Props.{is_text_among}
 use Rattle.map_model.specs.Commands.{Command, Unprotect, Settings}
 use Rattle.map_model.specs.Replies.{NoKey}
 use Rattle.map_model.specs.Rows.{rows, first, no_node, repeated, wrong_kind, nested_ids, locked_layer, two_members, reserved_key, no_key}
 use Rattle.map_model.specs.Own.{first_free, others_over}
-use Rattle.map_laws.proofs.Forest.{not_none}
 use Rattle.map_laws.proofs.Skeleton.{kind_at, kind_is}
 use Rattle.map_laws.proofs.Tests.{not_false}
 use Rattle.map_laws.proofs.Refused.{first_none, refuse_none, nodes_fit}
@@ -53,7 +52,7 @@ unprotect_keeps n key b s m a right good shape all e =
     let source = first_free m n key (others_over m n) in
     let is = kind_is m entity n ((nodes_fit b s m (Unprotect n key) none).fit n here) in
     let plain = slot_key (format_of m) key (at m n) (λ x e. shape.each_node n x e) is
-        (not_false (is_text_among key (protected_at m n)) (refuse_none (not (is_text_among key (protected_at m n))) (NoKey n) (key_row b s m (Unprotect n key) none))) in
+    (not_false (is_text_among key (protected_at m n)) (refuse_none (not (is_text_among key (protected_at m n))) (NoKey n) (key_row b s m (Unprotect n key) none))) in
     plain_spread m (renew n (freed key source) m) (Unprotect n key)
     (renew_shape m n (freed key source) (keeps_freed key source) shape (λ x at_n. freed_ok (format_of m) key source x (shape.each_node n x at_n) plain.file
     (λ y f. let z = first_node m n key (others_over m n) y f in shape.each_node z.0 y z.1) (kind_there x at_n is)))

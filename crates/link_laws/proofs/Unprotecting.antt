@@ -1,5 +1,5 @@
 -- Members that are one content stay so where a key is protected no more and gets the value that the first other member has.
-use Rattle.std.proofs.Common.{◌≡◌, ◌≢◌, ℕ, List, [], ◌∷◌, length, Bool, true, false, cond, not, ◌==◌, ◌&&◌, ◌||◌, refl, ap, sym, ◌∙◌, subst, Option, Some, None, option_map}
+use Rattle.std.proofs.Common.{◌≡◌, ◌≢◌, ℕ, List, [], ◌∷◌, Bool, true, false, cond, not, ◌||◌, refl, ap, sym, ◌∙◌, subst, Option, Some, None, option_map}
 use Rattle.std.specs.Prelude.{unwrap_or, is_some}
 use Rattle.std.specs.List.{find}
 use Rattle.std.specs.Str.{bytes_eq}
@@ -10,8 +10,8 @@ use Rattle.map_model.specs.Tree.{Whole, Node, World, Layer, Group, Entity, Brush
 use Rattle.map_model.specs.Edits.{renew}
 use Rattle.map_model.specs.Props.{value_at, is_text_among, origin}
 use Rattle.map_model.specs.Shape.{Shape}
-use Rattle.map_model.specs.Own.{value_from, without_text, free_entity, first_free, others_over, unprotect}
-use Rattle.map_model.specs.Links.{at_both, same_counts_of_children, is_image_origin, origin_agrees, values_agree, same_values, same_group, IsOneContent, AllOne, leads}
+use Rattle.map_model.specs.Own.{value_from, without_text, free_entity, first_free, others_over}
+use Rattle.map_model.specs.Links.{at_both, same_counts_of_children, is_image_origin, values_agree, same_values, same_group, IsOneContent, AllOne, leads}
 use Rattle.map_laws.proofs.Lists.{by_eq}
 use Rattle.map_laws.proofs.Beneath.{some_one}
 use Rattle.map_laws.proofs.Nodes.{same_kind_is}
@@ -26,7 +26,7 @@ use Rattle.link_laws.proofs.FreedValues.{freed, keeps_freed, value_taken, value_
 use Rattle.link_laws.proofs.Protecting.{at_both_is, at_both_from, one_from, content_alike}
 use Rattle.link_laws.proofs.Putting.{found, one_number}
 use Rattle.link_laws.proofs.Ones.{Both, Linked, over_content}
-use Rattle.link_laws.proofs.SpreadOne.{set_linked, other_is}
+use Rattle.link_laws.proofs.SpreadOne.{set_linked}
 use Rattle.link_laws.proofs.SpreadNodes.{is_other}
 use Rattle.link_laws.proofs.Agreeing.{place_marks, others_is}
 use Rattle.link_laws.proofs.Edited.{group_linked}
@@ -158,12 +158,22 @@ source_of m n key (h1 ∷ hs) h x i e = by (free_entity m n key h1) refl (λ j. 
         clash e = cc
 
     by : (o : Option Node) → free_entity m n key h1 ≡ o → (h ∈ hs → Source m n key hs) → Source m n key (h1 ∷ hs)
-    by (Some y) f later = record { member = h1; among = here; node = y; is_free = free_from m n key h1 y f;
-        first = ap (λ o. elim o as (λ o. Option Node) [ None ↦ first_free m n key hs | Some x ↦ Some x ]) f }
+    by (Some y) f later = record {
+      member = h1;
+      among = here;
+      node = y;
+      is_free = free_from m n key h1 y f;
+      first = ap (λ o. elim o as (λ o. Option Node) [ None ↦ first_free m n key hs | Some x ↦ Some x ]) f;
+    }
     by None f later =
         let w = later (rest f) in
-        record { member = w.member; among = there w.among; node = w.node; is_free = w.is_free;
-            first = ap (λ o. elim o as (λ o. Option Node) [ None ↦ first_free m n key hs | Some x ↦ Some x ]) f ∙ w.first }
+        record {
+          member = w.member;
+          among = there w.among;
+          node = w.node;
+          is_free = w.is_free;
+          first = ap (λ o. elim o as (λ o. Option Node) [ None ↦ first_free m n key hs | Some x ↦ Some x ]) f ∙ w.first;
+        }
 
 -- The value comes from a node of the map.
 pub first_node : (m : Whole) (n : ℕ) (key : List ℕ) (hs : List ℕ) (y : Node) → first_free m n key hs ≡ Some y → (z : ℕ) × (at m z ≡ Some y)
@@ -263,16 +273,20 @@ module _ (m : Whole) (n : ℕ) (key : List ℕ) (plain : bytes_eq key origin ≡
       (λ p. by_eq y n
       (λ q. absurd (ne (some_one (over_content m shape g x (set_linked m g s e) i) (ap (over m) (p ∙ sym q) ∙ over_content m shape h y (set_linked m h s t) j))))
       (λ q. record {
-        first = f w.first; second = w.second;
-        at_first = changed_at x w.first p w.at_first; at_second = left_at y w.second q w.at_second;
+        first = f w.first;
+        second = w.second;
+        at_first = changed_at x w.first p w.at_first;
+        at_second = left_at y w.second q w.at_second;
         agree = freed_first key plain (first_free m n key (others_over m n)) r w.first w.second (kind_n x w.first p w.at_first)
             (taken s g h y w.second (props_of w.first) e t (λ v. ne (sym v)) (subst (λ v. v ∈ content m g) p i) j (sym (ap (mark_at m) p) ∙ marks_of r x y w) w.at_second
             (sym (same_kinds r w.first w.second w.agree) ∙ kind_n x w.first p w.at_first)) w.agree;
       }))
       (λ p. by_eq y n
       (λ q. record {
-        first = w.first; second = f w.second;
-        at_first = left_at x w.first p w.at_first; at_second = changed_at y w.second q w.at_second;
+        first = w.first;
+        second = f w.second;
+        at_first = left_at x w.first p w.at_first;
+        at_second = changed_at y w.second q w.at_second;
         agree = freed_second key plain (first_free m n key (others_over m n)) r w.first w.second (kind_n y w.second q w.at_second)
             (taken s h g x w.first (props_of w.second) t e ne (subst (λ v. v ∈ content m h) q j) i (sym (ap (mark_at m) q) ∙ sym (marks_of r x y w)) w.at_first
             (same_kinds r w.first w.second w.agree ∙ kind_n y w.second q w.at_second)) w.agree;
