@@ -12,10 +12,11 @@ use Rattle.edit_session.specs.Serving.{StopCause, stop_status}
 use Rattle.edit_session.specs.Opening.{OpenCause}
 use Rattle.edit_session.specs.Keeping.{KeepCause, ServeCause}
 use Rattle.edit_session.specs.EditRun.{CausedBy}
-use Rattle.edit_session.specs.CheckRun.{SumCause, CheckCausedBy}
+use Rattle.edit_session.specs.Summing.{SumCause}
+use Rattle.edit_session.specs.CheckRun.{CheckCausedBy}
 
 -- Counts that are the same.
-same_counts : (f k t g f1 k1 t1 g1 : ℕ) → f1 ≡ f → k1 ≡ k → t1 ≡ t → g1 ≡ g → counts_of f1 k1 t1 g1 ≡ counts_of f k t g
+pub same_counts : (f k t g f1 k1 t1 g1 : ℕ) → f1 ≡ f → k1 ≡ k → t1 ≡ t → g1 ≡ g → counts_of f1 k1 t1 g1 ≡ counts_of f k t g
 same_counts f k t g f1 k1 t1 g1 a b c d =
     ap (λ x. counts_of x k1 t1 g1) a ∙ ap (λ x. counts_of f x t1 g1) b ∙ ap (λ x. counts_of f k x g1) c ∙ ap (λ x. counts_of f k t x) d
 

@@ -14,7 +14,8 @@ use Rattle.edit_session.specs.Tests.{Tests}
 use Rattle.edit_session.specs.Devices.{Told, told_of, MayFind}
 use Rattle.edit_session.specs.Opening.{GaveFront, NotOpened, IsOpened}
 use Rattle.edit_session.specs.Found.{StoppedTelling}
-use Rattle.edit_session.specs.CheckRun.{Sums, check_text, CheckedSays, CheckSays}
+use Rattle.edit_session.specs.Summing.{Sums}
+use Rattle.edit_session.specs.CheckRun.{check_text, CheckedSays, CheckSays}
 use Rattle.edit_session.proofs.Exits.{once, found_read, not_opened}
 use Rattle.edit_session.proofs.Telling.{front_before, front_behind}
 
@@ -48,7 +49,7 @@ check_unopened one some texts map status left given now kept kept_now unfetched 
 
 -- The summary was given, or a front of it.
 summed : (status : Status) (m : Whole) (notes : List Note) (left given mid now : Option (List ℕ)) (kept : Option Texts) (unfetched ungiven : Type 0) (tests : Tests) →
-    Grew given mid (opening_text (Tree m notes)) → Sums status m mid now → (status ≡ WriteFault → ungiven) →
+    Grew given mid (opening_text (Tree m notes)) → Sums status (summary_of m) mid now → (status ≡ WriteFault → ungiven) →
     CheckedSays status (told_of left given kept) (told_of left now kept) unfetched ungiven tests (Tree m notes)
 summed Ended m notes left given mid now kept unfetched ungiven tests g s f =
     inr (refl, Grew-then given mid now (opening_text (Tree m notes)) (summary_line (summary_of m)) g s, (refl, refl))
@@ -62,7 +63,7 @@ summed (TooLong which) m notes left given mid now kept unfetched ungiven tests g
 
 -- A run that opened the map and gave its notes.
 pub check_opened : OpensOneWay → (texts : Option Texts) (name : List ℕ) (m : Whole) (status : Status) (left given mid now : Option (List ℕ)) (kept kept_now : Option Texts) (unfetched ungiven : Type 0) →
-    kept_now ≡ kept → (status ≡ WriteFault → ungiven) → (found : Option (List ℕ)) × MayFind texts name found × IsOpened found m given mid → Sums status m mid now →
+    kept_now ≡ kept → (status ≡ WriteFault → ungiven) → (found : Option (List ℕ)) × MayFind texts name found × IsOpened found m given mid → Sums status (summary_of m) mid now →
     CheckSays texts name status (told_of left given kept) (told_of left now kept_now) unfetched ungiven
 check_opened one texts name m status left given mid now kept kept_now unfetched ungiven e f h s =
     let said = CheckedSays status (told_of left given kept) (told_of left now kept) unfetched ungiven in

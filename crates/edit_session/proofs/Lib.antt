@@ -2,9 +2,11 @@ pub mod Causes
 pub mod CheckExits
 pub mod EditExits
 pub mod Exits
+pub mod ExportExits
 pub mod Held
 pub mod Opens
 pub mod Quiet
+pub mod QuietExports
 pub mod Reading
 pub mod SameWords
 pub mod Savable

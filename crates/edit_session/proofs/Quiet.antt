@@ -17,7 +17,7 @@ use Rattle.edit_session.specs.CheckRun.{check_text, CheckedSays, CheckCausedBy}
 use Rattle.edit_session.specs.Completeness.{NoneFull, CanOpen, CanRead, QuietRunsEnd, QuietRunsMeetNoFault, QuietChecksEnd, QuietChecksMeetNoFault}
 
 -- A count that is what it was did not rise.
-did_not_rise : (n : ℕ) → n ≢ 2 ^ 64 - 1 → Rose n n → ⊥
+pub did_not_rise : (n : ℕ) → n ≢ 2 ^ 64 - 1 → Rose n n → ⊥
 did_not_rise n some h = ⊎_elim (λ lt. omega (arith, lt)) (λ e. some e) h
 
 -- A test of which the answer is known.
@@ -26,7 +26,7 @@ of_false true P Q e h = absurd (cc)
 of_false false P Q e h = h
 
 -- What is said of the map that the bytes open as.
-says_opened : (texts : Texts) (name : List ℕ) (status : Status) (before now : Told) (unfetched : Type 0) (said : Tests → Opened → Type 0) → (can : CanOpen texts name) →
+pub says_opened : (texts : Texts) (name : List ℕ) (status : Status) (before now : Told) (unfetched : Type 0) (said : Tests → Opened → Type 0) → (can : CanOpen texts name) →
     NamedSays (Some texts) name status before now unfetched said → said can.tests (Tree can.whole can.notes)
 says_opened texts name status before now unfetched said can h =
     let found : FoundSays (Some can.bytes) status before now unfetched said = subst (λ f. FoundSays f status before now unfetched said) (sym h.1 ∙ can.named) h.2 in
@@ -46,17 +46,17 @@ within_limit tests m out script before now ungiven is fits h =
     longer_than script says.2.0 says.0 says.2.1 67108864 says.2.3 says.2.4 fits
 
 -- No count rose, and a text of the name is there.
-some_named : (texts : Texts) (name bytes : List ℕ) → text_named texts name ≡ Some bytes → text_named texts name ≢ None
+pub some_named : (texts : Texts) (name bytes : List ℕ) → text_named texts name ≡ Some bytes → text_named texts name ≢ None
 some_named texts name bytes named none = absurd (cc)
 
-no_fetch_fault : (texts : Texts) (name : List ℕ) (counts : Counts) → NoneFull counts → text_named texts name ≢ None → Unfetched (Some texts) name counts counts → ⊥
+pub no_fetch_fault : (texts : Texts) (name : List ℕ) (counts : Counts) → NoneFull counts → text_named texts name ≢ None → Unfetched (Some texts) name counts counts → ⊥
 no_fetch_fault texts name counts some named h = ⊎_elim (λ rose. did_not_rise counts.fetches some.fetches rose) (λ none. named none) h
 
 no_read_fault : (texts : Texts) (name : List ℕ) (counts : Counts) → NoneFull counts → text_named texts name ≢ None → ReadCause (Some texts) name counts counts → ⊥
 no_read_fault texts name counts some named h =
     ⊎_elim (λ fetch. no_fetch_fault texts name counts some named fetch.0) (λ take. did_not_rise counts.takes some.takes take.0) h.0
 
-no_write_fault : (counts : Counts) → NoneFull counts → WriteCause counts counts → ⊥
+pub no_write_fault : (counts : Counts) → NoneFull counts → WriteCause counts counts → ⊥
 no_write_fault counts some h =
     ⊎_elim (λ give. did_not_rise counts.gives some.gives give.0) (λ keep. did_not_rise counts.keeps some.keeps keep.0) h.0
 

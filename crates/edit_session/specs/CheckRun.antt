@@ -7,30 +7,10 @@ use Rattle.map_model.specs.Tree.{Whole}
 use Rattle.map_opening.specs.Opening.{Opened, Tree, Refused, opening_text, summary_of}
 use Rattle.edit_session.specs.Tests.{Tests}
 use Rattle.edit_session.specs.Devices.{Told, Counts, NoneFell, Unfetched}
-use Rattle.edit_session.specs.Opening.{GaveFront}
 use Rattle.edit_session.specs.Found.{NoneTaken, StoppedTelling, NamedSays}
 use Rattle.edit_session.specs.declared.status.Which.TheVariants.{Map, Script}
 use Rattle.edit_session.specs.declared.status.Status.{Status}
 use Rattle.edit_session.specs.declared.status.Status.TheVariants.{Ended, Usage, ReadFault, WriteFault, MapRefused, Memory, TooLong}
-
--- The summary of the map was given, or a front of it.
-abbrev pub Sums : Status → Whole → Option (List ℕ) → Option (List ℕ) → Type 0
-Sums Ended m given now = Grew given now (summary_line (summary_of m))
-Sums WriteFault m given now = GaveFront given now (summary_line (summary_of m))
-Sums Usage m given now = ⊥
-Sums ReadFault m given now = ⊥
-Sums (MapRefused fault) m given now = ⊥
-Sums Memory m given now = ⊥
-Sums (TooLong which) m given now = ⊥
-
-abbrev pub SumCause : Status → ℕ → ℕ → Type 0
-SumCause Ended gives gives_now = gives_now ≡ gives
-SumCause WriteFault gives gives_now = Rose gives gives_now
-SumCause Usage gives gives_now = ⊥
-SumCause ReadFault gives gives_now = ⊥
-SumCause (MapRefused fault) gives gives_now = ⊥
-SumCause Memory gives gives_now = ⊥
-SumCause (TooLong which) gives gives_now = ⊥
 
 -- The lines of the opening, and behind the notes of a map its summary.
 abbrev pub check_text : Opened → List ℕ

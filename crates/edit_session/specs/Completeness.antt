@@ -8,6 +8,7 @@ use Rattle.edit_session.specs.Tests.{Tests}
 use Rattle.edit_session.specs.Devices.{Told, Counts}
 use Rattle.edit_session.specs.EditRun.{EditRun}
 use Rattle.edit_session.specs.CheckRun.{CheckRun}
+use Rattle.edit_session.specs.ExportRun.{ExportRun}
 use Rattle.edit_session.specs.declared.status.TheConstants.{LIMIT}
 use Rattle.edit_session.specs.declared.status.Status.{Status}
 use Rattle.edit_session.specs.declared.status.Status.TheVariants.{Ended, ReadFault, WriteFault, Memory}
@@ -48,6 +49,12 @@ QuietChecksEnd =
     CheckRun map status (Some texts) before now counts counts →
     NoneFull counts → CanOpen texts map → (status ≡ Ended) ⊎ (status ≡ Memory)
 
+abbrev pub QuietExportsEnd : Type 0
+QuietExportsEnd =
+    (map out : List ℕ) (status : Status) (texts : Texts) (before now : Told) (counts : Counts) →
+    ExportRun map out status (Some texts) before now counts counts →
+    NoneFull counts → CanOpen texts map → (status ≡ Ended) ⊎ (status ≡ Memory)
+
 -- A run of which no count of faults rises meets no fault, whatever the map and the script are,
 -- where the vault tells a text of the map's name.
 abbrev pub IsNoFault : Status → Type 0
@@ -63,4 +70,10 @@ abbrev pub QuietChecksMeetNoFault : Type 0
 QuietChecksMeetNoFault =
     (map : List ℕ) (status : Status) (texts : Texts) (before now : Told) (counts : Counts) →
     CheckRun map status (Some texts) before now counts counts →
+    NoneFull counts → text_named texts map ≢ None → IsNoFault status
+
+abbrev pub QuietExportsMeetNoFault : Type 0
+QuietExportsMeetNoFault =
+    (map out : List ℕ) (status : Status) (texts : Texts) (before now : Told) (counts : Counts) →
+    ExportRun map out status (Some texts) before now counts counts →
     NoneFull counts → text_named texts map ≢ None → IsNoFault status

@@ -7,7 +7,9 @@ pub mod Opening
 pub mod Keeping
 pub mod Found
 pub mod EditRun
+pub mod Summing
 pub mod CheckRun
+pub mod ExportRun
 pub mod Completeness
 pub use Rattle.outside_io.specs.Moved
 pub use Rattle.outside_io.specs.Texts

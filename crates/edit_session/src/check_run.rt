@@ -1,33 +1,15 @@
 //! A run over the words `check MAP`.
 
-ghost use Rattle.std.specs.Prelude.{◌≡◌, ◌≤◌, Option, List, ℕ};
-ghost use Rattle.outside_io.specs.Moved.{Rose};
-ghost use Rattle.map_model.specs.Tree.{whole};
+ghost use Rattle.std.specs.Prelude.{Option, List, ℕ};
 ghost use Rattle.edit_session.specs.Devices.{told_of, counts_of};
-ghost use Rattle.edit_session.specs.CheckRun.{Sums, SumCause, CheckRun};
+ghost use Rattle.edit_session.specs.CheckRun.{CheckRun};
 
 use crate::opening::open;
 use crate::status::Status;
-use cmd_text::ReplyBuf;
+use crate::summing::sum_up;
 use map_opening::{opens_for_all_law, opens_one_way_law, summary};
-use map_report::summary_text;
-use outside_io::{Sink, Vault, give_all};
+use outside_io::{Sink, Vault};
 use std::alloc::Global;
-use tree_node::Map;
-
-// Gives the summary of a map.
-fn sum_up<R: Sink>(map: &Map, replies: &mut R) -> Status
-    ensures given { Sums result (whole map.now) (R.given replies.old) (R.given replies.new) }
-    ensures cause { SumCause result (R.faults replies.old) (R.faults replies.new) }
-    ensures later { R.faults replies.old ≤ R.faults replies.new }
-{
-    let mut line = ReplyBuf::new();
-    summary_text(summary(map), &mut line);
-    match give_all(replies, line.text()) {
-        Ok(()) => Status::Ended,
-        Err(_) => Status::WriteFault,
-    }
-}
 
 /// Fetches and opens the map, and gives its notes and its summary. It has no script to take from, so its clause holds
 /// whatever the script tells and counts.
@@ -48,7 +30,7 @@ pub(crate) fn run_check<V: Vault, R: Sink>(
     opens_for_all_law();
     opens_one_way_law();
     match open(alloc, map, vault, replies) {
-        Ok(opened) => sum_up(&opened, replies),
+        Ok(opened) => sum_up(summary(&opened), replies),
         Err(status) => status,
     }
 }

@@ -1,19 +1,19 @@
 //! The words after the program's name.
 
 ghost use Rattle.std.specs.Prelude.{◌≡◌, ◌≢◌, ◌↔◌, ℕ, List, [], ◌∷◌, codes, map, IfSome, IfNone, IsTrue, string_bytes};
-ghost use Rattle.edit_session.specs.Words.{AreNames, IsEdit, IsCheck};
+ghost use Rattle.edit_session.specs.Words.{AreNames, IsForm, IsEdit, IsExport, IsCheck};
 
-/// The names of `edit MAP OUT`.
+/// The names of a form with a map and the name that a text is kept under.
 #[derive(Drop)]
-pub(crate) struct Edit<'a> {
+pub(crate) struct Names<'a> {
     pub(crate) map: &'a str,
     pub(crate) out: &'a str,
 }
 
-fn is_edit(form: &str) -> bool
-    ensures { IsTrue result ↔ (form.now ≡ codes "edit") }
+fn is_form(word: &str, form: &str) -> bool
+    ensures { IsTrue result ↔ (word.now ≡ form.now) }
 {
-    form == "edit"
+    word == form
 }
 
 fn is_check(form: &str) -> bool
@@ -35,24 +35,40 @@ fn are_names(map: &str, out: &str) -> bool
     !map.is_empty() && !out.is_empty() && map != out
 }
 
-/// The names, where the words are `edit MAP OUT`, both names have a byte at least, and they differ.
-pub(crate) fn read_edit(words: &[String]) -> Option<Edit<'_>>
-    ensures edit { IfSome result (λ e. IsEdit (map string_bytes words.now) e.map.now e.out.now) }
-    ensures none { IfNone result ((name out : List ℕ) → IsEdit (map string_bytes words.now) name out → ⊥) }
+// The names, where the words are `FORM MAP OUT`, both names have a byte at least, and they differ.
+fn read_form<'a>(words: &'a [String], form: &str) -> Option<Names<'a>>
+    ensures form { IfSome result (λ n. IsForm form.now (map string_bytes words.now) n.map.now n.out.now) }
+    ensures none { IfNone result ((name out : List ℕ) → IsForm form.now (map string_bytes words.now) name out → ⊥) }
 {
-    let [form, map, out] = words else {
+    let [word, map, out] = words else {
         return None;
     };
-    if !is_edit(form.as_str()) {
+    if !is_form(word.as_str(), form) {
         return None;
     }
     if !are_names(map.as_str(), out.as_str()) {
         return None;
     }
-    Some(Edit {
+    Some(Names {
         map: map.as_str(),
         out: out.as_str(),
     })
+}
+
+/// The names, where the words are `edit MAP OUT`, both names have a byte at least, and they differ.
+pub(crate) fn read_edit(words: &[String]) -> Option<Names<'_>>
+    ensures edit { IfSome result (λ e. IsEdit (map string_bytes words.now) e.map.now e.out.now) }
+    ensures none { IfNone result ((name out : List ℕ) → IsEdit (map string_bytes words.now) name out → ⊥) }
+{
+    read_form(words, "edit")
+}
+
+/// The names, where the words are `export MAP OUT`, both names have a byte at least, and they differ.
+pub(crate) fn read_export(words: &[String]) -> Option<Names<'_>>
+    ensures export { IfSome result (λ e. IsExport (map string_bytes words.now) e.map.now e.out.now) }
+    ensures none { IfNone result ((name out : List ℕ) → IsExport (map string_bytes words.now) name out → ⊥) }
+{
+    read_form(words, "export")
 }
 
 /// The name, where the words are `check MAP` and the name has a byte at least.

@@ -1,7 +1,8 @@
-use Rattle.std.proofs.Common.{refl, sym}
+use Rattle.std.proofs.Common.{refl, sym, subst}
 use Rattle.outside_io.specs.Moved.{Rose}
 use Rattle.map_model.specs.Tree.{whole}
 use Rattle.edit_session.specs.Devices.{Unfetched, counts_of}
+use Rattle.edit_session.specs.Summing.{Sums}
 use Rattle.edit_session.proofs.CheckExits.{check_opened, check_unopened}
 use Rattle.edit_session.proofs.Causes.{summed_cause, summed_ungiven, unopened_check_cause, open_unfetched, open_ungiven, some_fell_not}
 use Rattle.edit_session.proofs.check_run.run_check.Goals as goal
@@ -18,7 +19,8 @@ returns-in-Ok g c = λ left t0.
       says = check_opened c.opens_one_way_law.ensures texts c.args.map.now (whole c.in-Ok.opened) c.sum_up.result left
           (given c.args.replies.now) (given c.open.new.replies) (given c.sum_up.new.replies) (kept c.args.vault.now) (kept c.open.new.vault)
           (Unfetched texts c.args.map.now (counts_of f0 k0 t0 g0) (counts_of f1 k1 t0 g2)) (Rose g0 g2)
-          c.in-Ok.ensures.kept (summed_ungiven c.sum_up.result g0 g1 g2 quiet.1 c.sum_up.ensures.cause) c.in-Ok.ensures.ok c.sum_up.ensures.given;
+          c.in-Ok.ensures.kept (summed_ungiven c.sum_up.result g0 g1 g2 quiet.1 c.sum_up.ensures.cause) c.in-Ok.ensures.ok
+          (subst (λ s. Sums c.sum_up.result s (given c.open.new.replies) (given c.sum_up.new.replies)) c.summary.ensures c.sum_up.ensures.given);
       cause = summed_cause c.sum_up.result texts c.args.map.now f0 k0 t0 g0 f1 k1 g1 g2 quiet.0 c.in-Ok.ensures.keeps quiet.1 c.sum_up.ensures.cause;
       none_taken = (refl, c.in-Ok.ensures.kept);
       takes = refl;
