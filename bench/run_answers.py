@@ -9,7 +9,7 @@ from cases import NoCase, behind, unspelled, with_line
 # What the program knows today. Other words are refused as not built, and so are maps that ask for links; there are no other forms.
 WORDS = frozenset(b'box clip copy delete entity flip freeze group hollow hull intersect into layer lock material merge move pick redo set show snap subtract tex thaw tie tree turn undo '
                   b'ungroup unset untie uv vertex'.split())
-FORMS = ('edit', 'check')
+FORMS = ('edit', 'check', 'export')
 
 refuse_by_stage = build_tree.refuse_not_built
 
