@@ -55,7 +55,7 @@ module _ (s : Settings) (m : Whole) (ns : List ℕ) where
           let made : (b : Below) → IsRight b → intersection b m ns ≡ body = λ b right. common_is m map_is ns some brushes kept t b right ∙ sym e in
           record {
             passes = λ b right. last_row b right ∙ ap (too_many (first_of ns)) (made b right)
-            ∙ not_many (first_of ns) body (subst (λ l. length l ≤ 128) (sym e) (kept_needed (length (all_faces m ns)) (all_faces m ns) [] kept is).most);
+                ∙ not_many (first_of ns) body (subst (λ l. length l ≤ 128) (sym e) (kept_needed (length (all_faces m ns)) (all_faces m ns) [] kept is).most);
             made = made;
           }
 

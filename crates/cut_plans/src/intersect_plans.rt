@@ -44,12 +44,7 @@ pub(crate) fn plan_intersect(
 }
 
 // The common part of the brushes, or the first row that refuses the command.
-fn intersected(
-    alloc: Global,
-    map: &Map,
-    set: &Settings,
-    ids: &[NodeId],
-) -> Result<Body, OpFault>
+fn intersected(alloc: Global, map: &Map, set: &Settings, ids: &[NodeId]) -> Result<Body, OpFault>
     requires some { 0 < length ids.now }
     requires few { length ids.now < 4096 }
     ensures { IsIntersected set.now (whole map.now) ids.now result }
@@ -75,12 +70,7 @@ fn intersected(
 }
 
 // The first brush becomes the common part, and the others are deleted.
-fn put_all(
-    alloc: Global,
-    map: &Map,
-    ids: &[NodeId],
-    body: Body,
-) -> Result<Planned, OpFault>
+fn put_all(alloc: Global, map: &Map, ids: &[NodeId], body: Body) -> Result<Planned, OpFault>
     requires some { 0 < length ids.now }
     ensures { Ends (whole map.now) ids.now (keep_first body ids.now (whole map.now)) 0 Done result }
 {

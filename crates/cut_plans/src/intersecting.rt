@@ -17,11 +17,7 @@ use tree_node::Map;
 use uv_lock::Face;
 
 /// The faces of brushes, one brush after another.
-pub(crate) fn all_faces(
-    alloc: Global,
-    map: &Map,
-    ids: &[NodeId],
-) -> Result<Vec<Face>, AllocError>
+pub(crate) fn all_faces(alloc: Global, map: &Map, ids: &[NodeId]) -> Result<Vec<Face>, AllocError>
     requires brushes { (n : ℕ) → n ∈ ids.now → IsTrue (is_brush (whole map.now) n) }
     ensures { IfOk result (λ faces. faces.items ≡ all_faces (whole map.now) ids.now) }
 {

@@ -124,8 +124,14 @@ module _ (s : Settings) (m : Whole) (ns : List ℕ) where
           in_firsts (map vector points) x (subst (λ y. y ∈ map vector points) (sym v.2)
           (map_in vector points p (subst (λ l. p ∈ l) (corners.are b right) (flat_in (corners_at b m) ns n p i (map_in as_point vs v.0 v.1))))) in
           record {
-            a = wide.a; b = wide.b; c = wide.c; d = wide.d;
-            a_in = among wide.a wide.a_in; b_in = among wide.b wide.b_in; c_in = among wide.c wide.c_in; d_in = among wide.d wide.d_in;
+            a = wide.a;
+            b = wide.b;
+            c = wide.c;
+            d = wide.d;
+            a_in = among wide.a wide.a_in;
+            b_in = among wide.b wide.b_in;
+            c_in = among wide.c wide.c_in;
+            d_in = among wide.d wide.d_in;
             volume = wide.volume;
           }
 

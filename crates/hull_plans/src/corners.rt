@@ -16,11 +16,7 @@ use tree_ops::OpFault;
 
 /// The vertices of the brushes as points, one brush after another. `FractionalVertex` with the first brush that has one that
 /// isn't whole.
-pub(crate) fn corners_of(
-    alloc: Global,
-    map: &Map,
-    ids: &[NodeId],
-) -> Result<Rows<Point>, OpFault>
+pub(crate) fn corners_of(alloc: Global, map: &Map, ids: &[NodeId]) -> Result<Rows<Point>, OpFault>
     requires brushes { (n : ℕ) → n ∈ ids.now → IsTrue (is_brush (whole map.now) n) }
     requires few { length ids.now < 4096 }
     ensures { IsCorners (whole map.now) ids.now result }

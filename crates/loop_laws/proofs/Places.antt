@@ -60,4 +60,3 @@ pub loop_short : (V : List Homogeneous) (f : HalfSpace) â†’ length (loop V f) â‰
 loop_short V f =
     let a = of_short f (filter (number_is_on f) (enumerate_from 0 V)) in let b = filter_short (number_is_on f) (enumerate_from 0 V) in
     let c = length-enumerate_from 0 V in omega arith
-

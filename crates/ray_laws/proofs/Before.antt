@@ -86,9 +86,9 @@ module _ (a b : Vector) (t : Fraction) where
       by_sign (side f (point_at a b t))
       (λ l. inr (one_more f F (unsigned_abs (fall f)) (λ n m. behind_one f n m l) k))
       (λ on. by_sign (fall f)
-        (λ l. inl (record { face = f; member = here; on = on; falls = λ z. not_zero (fall f) l z }))
-        (λ z. inr (one_more f F 0 (λ n m. on_one f n z on) k))
-        (λ l. inl (record { face = f; member = here; on = on; falls = λ z. not_zero_above (fall f) l z })))
+      (λ l. inl (record { face = f; member = here; on = on; falls = λ z. not_zero (fall f) l z }))
+      (λ z. inr (one_more f F 0 (λ n m. on_one f n z on) k))
+      (λ l. inl (record { face = f; member = here; on = on; falls = λ z. not_zero_above (fall f) l z })))
       (λ l. absurd (both (side f (point_at a b t)) h l))
     where
       not_zero : (x : ℤ) → x <ℤ pos 0 → x ≡ pos 0 → ⊥

@@ -30,9 +30,9 @@ side-level n p = plain (dot n p.vector) p.weight
 pub bound_plain : (low a w b u : ℤ) → pos 0 <ℤ w → pos 0 <ℤ u → (low *ℤ w) ≤ℤ a → (a *ℤ u) ≤ℤ (b *ℤ w) → (low *ℤ u) ≤ℤ b
 bound_plain low a w b u h k l m =
     cancel-le_left w h (let x = mul-le_left u (nonneg_of_positive k) l in
-      let e : u *ℤ (low *ℤ w) ≡ w *ℤ (low *ℤ u) = ring (u ∷ low ∷ w ∷ []) (search read depth 20) tt in
-      let f : u *ℤ a ≡ a *ℤ u = ring (u ∷ a ∷ []) (search read depth 20) tt in
-      let g : b *ℤ w ≡ w *ℤ b = ring (b ∷ w ∷ []) (search read depth 20) tt in omega (arith, ints))
+    let e : u *ℤ (low *ℤ w) ≡ w *ℤ (low *ℤ u) = ring (u ∷ low ∷ w ∷ []) (search read depth 20) tt in
+    let f : u *ℤ a ≡ a *ℤ u = ring (u ∷ a ∷ []) (search read depth 20) tt in
+    let g : b *ℤ w ≡ w *ℤ b = ring (b ∷ w ∷ []) (search read depth 20) tt in omega (arith, ints))
 
 turn_plain : (w s u t b a : ℤ) → w *ℤ s ≡ u *ℤ t → s ≡ b → t ≡ a → (a *ℤ u) ≤ℤ (b *ℤ w)
 turn_plain w s u t b a e f g =
@@ -48,14 +48,14 @@ module _ (F : List HalfSpace) (n : Vector) (low : ℤ) (V : List Homogeneous) (b
       let a = (holds_vertices F V vertices).all v is in
       let s = scaled_sides (level n) v a.s a.same in
       bound_plain low (dot n a.s.vector) a.s.weight (dot n v.vector) v.weight ((vertices.each a.s a.among).0.inside.weight) is.inside.weight (each a.s a.among)
-        (turn_plain a.s.weight (side (level n) v) v.weight (side (level n) a.s) (dot n v.vector) (dot n a.s.vector) s.is (side-level n v) (side-level n a.s))
+      (turn_plain a.s.weight (side (level n) v) v.weight (side (level n) a.s) (dot n v.vector) (dot n a.s.vector) s.is (side-level n v) (side-level n a.s))
 
   pub below_all : (p : Homogeneous) → IsIn F p → (low *ℤ p.weight) ≤ℤ dot n p.vector
   below_all p i =
       let c = corner_below F (level n) p bounded i in
       bound_plain low (dot n c.at.vector) c.at.weight (dot n p.vector) p.weight c.vertex.inside.weight i.weight (at_vertex c.at c.vertex)
-        (subst (λ k. (k *ℤ p.weight) ≤ℤ (dot n p.vector *ℤ c.at.weight)) (side-level n c.at)
-          (subst (λ k. (side (level n) c.at *ℤ p.weight) ≤ℤ (k *ℤ c.at.weight)) (side-level n p) c.lower.le))
+      (subst (λ k. (k *ℤ p.weight) ≤ℤ (dot n p.vector *ℤ c.at.weight)) (side-level n c.at)
+      (subst (λ k. (side (level n) c.at *ℤ p.weight) ≤ℤ (k *ℤ c.at.weight)) (side-level n p) c.lower.le))
 
 -- ---- the greatest whole bound of a coordinate of a solid, by its vertices
 pub low_is : (coordinate : Vector → ℤ) (n : Vector) → ((v : Vector) → dot n v ≡ coordinate v) → (F : List HalfSpace) (low : ℤ) (V : List Homogeneous) →

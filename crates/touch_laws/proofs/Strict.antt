@@ -74,14 +74,14 @@ module _ {coordinate : Vector → ℤ} (straight : Straight coordinate) (F : Lis
   above_low low l =
       let s = stepped F p (negsuc 0) straight.step i in
       cancel-lt_left s.n s.positive (low_plain s.n low p.weight (coordinate p.vector) (coordinate (plus (scale s.n p.vector) (scale (negsuc 0) straight.step)))
-        (straight.stepped s.n (negsuc 0) p.vector) (l.below (go s.n (negsuc 0) p straight.step) s.is_in))
+      (straight.stepped s.n (negsuc 0) p.vector) (l.below (go s.n (negsuc 0) p straight.step) s.is_in))
 
   pub below_high : (high : ℤ) → IsHigh coordinate F high → coordinate p.vector <ℤ (high *ℤ p.weight)
   unfolding go
   below_high high h =
       let s = stepped F p (pos 1) straight.step i in
       cancel-lt_left s.n s.positive (high_plain s.n high p.weight (coordinate p.vector) (coordinate (plus (scale s.n p.vector) (scale (pos 1) straight.step)))
-        (straight.stepped s.n (pos 1) p.vector) (h.above (go s.n (pos 1) p straight.step) s.is_in))
+      (straight.stepped s.n (pos 1) p.vector) (h.above (go s.n (pos 1) p straight.step) s.is_in))
 
 -- ---- boxes that meet
 between : (low high w v : ℤ) → pos 0 <ℤ w → (low *ℤ w) <ℤ v → v <ℤ (high *ℤ w) → low <ℤ high

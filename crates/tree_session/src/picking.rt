@@ -58,11 +58,7 @@ fn earliest(best: Option<Met>, node: u32, hit: Option<Hit>) -> Option<Met>
         return Some(next);
     };
     let is_earlier = earlier(&hit.at, &met.hit.at);
-    if is_earlier {
-        Some(next)
-    } else {
-        Some(met)
-    }
+    if is_earlier { Some(next) } else { Some(met) }
 }
 
 // The brush that the ray meets first, of those that it meets at once the one with the least number.

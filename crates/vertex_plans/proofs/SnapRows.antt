@@ -114,7 +114,7 @@ module _ (m : Whole) (grid : ℤ) (n : ℕ) (fs : List Face) (is : fs ≡ faces_
       let e = faces_is fs grid is_grid valid r.vs r.rounded rows solid r.edit body on b right in
       let w = few fs grid is_grid valid r.vs r.rounded rows solid r.edit body on in (
         ap (one_by b) (sym is) ∙ (λ i. cond (nat_lt 128 (length (e i))) (Many n (length (e i))) (Few (record { id = n; body = e i })))
-        ∙ (λ i. cond (not_more (length body) w i) (Many n (length body)) (Few (record { id = n; body = body }))),
+            ∙ (λ i. cond (not_more (length body) w i) (Many n (length body)) (Few (record { id = n; body = body }))),
         ap (flat_by b) (sym is) ∙ spans_row fs grid is_grid valid r.vs r.rounded n r.edit.spans b right,
       )
 
@@ -125,6 +125,6 @@ module _ (m : Whole) (grid : ℤ) (n : ℕ) (fs : List Face) (is : fs ≡ faces_
   snapped_many count h b right =
       let e = many fs grid is_grid valid h.vs h.rounded count h.cause.1 b right in (
         ap (one_by b) (sym is) ∙ (λ i. cond (nat_lt 128 (e i)) (Many n (e i)) (Few (record { id = n; body = changed_faces b (rounded grid) fs })))
-        ∙ (λ i. cond ((Decides-ltb 128 count).1 h.cause.2 i) (Many n count) (Few (record { id = n; body = changed_faces b (rounded grid) fs }))),
+            ∙ (λ i. cond ((Decides-ltb 128 count).1 h.cause.2 i) (Many n count) (Few (record { id = n; body = changed_faces b (rounded grid) fs }))),
         ap (flat_by b) (sym is) ∙ spans_row fs grid is_grid valid h.vs h.rounded n h.cause.0 b right,
       )

@@ -4,9 +4,10 @@ use Rattle.hull_plans.proofs.solids.hull_at.Goals as goal
 
 pub returns-in-Ok : goal.returns-in-Ok
 returns-in-Ok c =
-    let e = c.in-Ok.ensures in
-    (solid_is c.args.node c.args.points.now c.requires.range c.in-Ok.found.facets c.in-Ok.found.solid e.hull e.law (e.few refl),
-    passes c.args.node c.args.points.now c.requires.range c.in-Ok.found.facets c.in-Ok.found.solid e.hull e.law (e.few refl))
+    let e = c.in-Ok.ensures in (
+      solid_is c.args.node c.args.points.now c.requires.range c.in-Ok.found.facets c.in-Ok.found.solid e.hull e.law (e.few refl),
+      passes c.args.node c.args.points.now c.requires.range c.in-Ok.found.facets c.in-Ok.found.solid e.hull e.law (e.few refl),
+    )
 
 pub returns-in-Err-TooManyPoints : goal.returns-in-Err-TooManyPoints
 returns-in-Err-TooManyPoints c =

@@ -11,9 +11,9 @@ returns-clause-added c =
     let fs = c.args.body.now in
     brush_added fs c.vertex_count.result (obj_at c.args.text.now.items c.args.counts.now)
     (obj_at c.put_lines.new.text.items (record {
-        brushes = c.args.counts.now.brushes + 1;
-        vertices = c.args.counts.now.vertices + c.from.result;
-        faces = c.args.counts.now.faces + length c.faces.result.now;
+      brushes = c.args.counts.now.brushes + 1;
+      vertices = c.args.counts.now.vertices + c.from.result;
+      faces = c.args.counts.now.faces + length c.faces.result.now;
     }))
     (valid_faces fs c.is_valid.ensures.brush)
     (subst (λ F. HasVertexCount F c.vertex_count.result) (ap of_sides c.solid.ensures.sides ∙ same_spaces 0 fs) c.vertex_count.ensures.count)
@@ -24,9 +24,9 @@ returns-clause-counted c =
     let fs = c.args.body.now in
     still_counted fs c.vertex_count.result (obj_at c.args.text.now.items c.args.counts.now)
     (obj_at c.put_lines.new.text.items (record {
-        brushes = c.args.counts.now.brushes + 1;
-        vertices = c.args.counts.now.vertices + c.from.result;
-        faces = c.args.counts.now.faces + length c.faces.result.now;
+      brushes = c.args.counts.now.brushes + 1;
+      vertices = c.args.counts.now.vertices + c.from.result;
+      faces = c.args.counts.now.faces + length c.faces.result.now;
     }))
     (valid_faces fs c.is_valid.ensures.brush)
     (subst (λ F. HasVertexCount F c.vertex_count.result) (ap of_sides c.solid.ensures.sides ∙ same_spaces 0 fs) c.vertex_count.ensures.count)

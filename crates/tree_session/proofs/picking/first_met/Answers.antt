@@ -13,9 +13,10 @@ loop-node-preserved c =
     let m = whole c.args.map.now in
     let a = vector c.args.from in
     let b = vector c.args.to in
-    let k = c.loop-node.node in
-    (subst (IsNearest m a b (k + 1)) (sym c.earliest-best.ensures) (one_more m a b k c.loop-node.best c.hit_at-hit.result c.loop-node.invariant.0 c.hit_at-hit.ensures),
-    omega (arith, c.loop-node-test.true, c.next-node-end.ensures))
+    let k = c.loop-node.node in (
+      subst (IsNearest m a b (k + 1)) (sym c.earliest-best.ensures) (one_more m a b k c.loop-node.best c.hit_at-hit.result c.loop-node.invariant.0 c.hit_at-hit.ensures),
+      omega (arith, c.loop-node-test.true, c.next-node-end.ensures),
+    )
 
 pub returns : goal.returns
 returns c =
