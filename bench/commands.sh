@@ -13,13 +13,13 @@ awk 'BEGIN { for (i = 1; i <= 500; i++) printf "hollow 1 %d\nundo\nhollow 2 %d\n
 awk 'BEGIN { for (i = 1; i <= 500; i++) { x = -4000 + 15 * ((i - 1) % 512); for (k = 1; k <= 4; k++) printf "clip both %d 0 0 %d 1 0 %d 0 1 %d\nundo\n", x + k, x + k, x + k, i } }' > clip.script
 awk -v first=60001 'BEGIN { for (i = 1; i <= 500; i++) for (k = 1; k <= 4; k++) printf "copy %d 0 0 %d\nsubtract %d %d\nundo\nundo\n", k, i, first, i }' > subtract.script
 sed 's/60001/601/' subtract.script > subtract_small.script
-for map in boxes small; do
-    echo "$map.map: $(wc -c < $map.map) bytes"
-    run "nothing" $map.map empty.script
-    run "10,000 moves" $map.map move.script
-    run "10,000 moves, each undone" $map.map undo.script
-    run "2,000 times hollow, each undone" $map.map hollow.script
-    run "2,000 times clip both, each undone" $map.map clip.script
+for size in boxes small; do
+    echo "$size.map: $(wc -c < $size.map) bytes"
+    run "nothing" $size.map empty.script
+    run "10,000 moves" $size.map move.script
+    run "10,000 moves, each undone" $size.map undo.script
+    run "2,000 times hollow, each undone" $size.map hollow.script
+    run "2,000 times clip both, each undone" $size.map clip.script
 done
 run "2,000 times copy and subtract, each undone" boxes.map subtract.script
 run "2,000 times copy and subtract, each undone" small.map subtract_small.script
