@@ -14,6 +14,9 @@ BLOCK = 'material wall\nbox 0 0 0 96 96 96\nmaterial cut\n'
 
 # The words of geometry: what stands before the command, and the command
 WORDS = {
+    'box': ('material floor\nbox 0 0 0 128 128 8', 'material wall\nbox 16 16 8 80 64 72'),
+    'move': ('material floor\nbox 0 0 0 128 128 8\nmaterial wall\nbox 16 16 8 48 48 40', 'move 64 64 0 2'),
+    'tex': ('material wall\nbox 0 0 0 96 96 96', 'tex 1 3 roof/tile 0 0 0 1 1'),
     'copy': ('material wall\nbox 0 0 0 64 64 64', 'copy 96 0 0 1'),
     'turn': ('material wall\nhull 0 0 0 128 0 0 0 64 0 128 64 0 0 0 32 0 64 32', 'turn z 1 0 0 0 1'),
     'flip': ('material wall\nhull 0 0 0 128 0 0 0 64 0 128 64 0 0 0 48 0 64 48', 'flip x 64 1'),
